@@ -1,0 +1,5 @@
+pub mod Words
+pub mod Acts
+pub mod Blocks
+pub mod Bridge
+pub mod Events

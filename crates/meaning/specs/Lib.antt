@@ -1,0 +1,4 @@
+pub mod Model
+pub mod Promise
+pub mod Law
+pub mod Worked

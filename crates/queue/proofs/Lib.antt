@@ -1,0 +1,4 @@
+mod Many
+mod Order
+mod Shift
+mod Take
