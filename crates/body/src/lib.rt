@@ -348,8 +348,6 @@ pub fn handle(
 ) -> Result<Counts, Refusal>
     requires narrow { ⌜ length (now vars) ≤ 64 ⌝ }
     requires timely { ⌜ m .time < 4294967296 ⌝ }
-    requires few_sends { ⌜ length (now sends) < 18446744073709551615 ⌝ }
-    requires few_lines { ⌜ length (now lines) < 18446744073709551615 ⌝ }
     ensures answers { λ r. ⌜ r ≡ answer (does (now (code .entry)) processes (now (process .entry)) (now (vars .entry)) m) (length (now (sends .entry))) (length (now (lines .entry))) ⌝ }
     ensures holds { λ r. ⌜ _≡_ {A = Lent} (record { process = now (process .exit); vars = now (vars .exit); sends = now (sends .exit); lines = now (lines .exit) }) (lent-after r (does (now (code .entry)) processes (now (process .entry)) (now (vars .entry)) m) (record { process = now (process .entry); vars = now (vars .entry); sends = now (sends .entry); lines = now (lines .entry) })) ⌝ }
 {

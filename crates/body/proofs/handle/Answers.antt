@@ -12,7 +12,7 @@ pub returns-then-need-process : need.returns-then-need-process
 returns-then-need-process c =
     record {
       answers = refuses-count (does (c .args .code .now) (c .args .processes) (c .args .process .now) (c .args .vars .now) (c .args .m)) (c .args .process .now .sent)
-          (length (c .args .sends .now)) (length (c .args .lines .now)) (does-sent _ _ _ _) (c .pre .few-sends) (c .pre .few-lines)
+          (length (c .args .sends .now)) (length (c .args .lines .now)) (does-sent _ _ _ _) (omega arith) (omega arith)
           (subst (λ t. t .sends ≤ length (c .args .sends .now)) (c .measure-need .ensures) (c .if-need-sends .left))
           (subst (λ t. t .lines ≤ length (c .args .lines .now)) (c .measure-need .ensures) (c .if-need-lines .left))
           (omega arith)
@@ -26,7 +26,7 @@ add-process c =
     kept (record { it = c .args .m .number; me = c .args .m .to; clock = c .args .m .time; processes = c .args .processes; sent = c .args .process .now .sent })
     (c .args .code .now) (c .args .process .now .seed) (c .args .vars .now) (c .args .sends .now) (c .args .lines .now)
     (room (c .play .last .vars) (c .play .last .tally) (c .play .last .sends) (c .play .last .lines)) (c .measure-need .result)
-    (c .pre .few-sends) (c .pre .few-lines) (omega arith) (c .measure-need .ensures) (c .if-need-sends .left) (c .if-need-lines .left) (c .if-need-process .left) (c .play .ensures) in
+    (omega arith) (omega arith) (omega arith) (c .measure-need .ensures) (c .if-need-sends .left) (c .if-need-lines .left) (c .if-need-process .left) (c .play .ensures) in
     omega (arith, k .sent)
 
 pub returns : need.returns
@@ -35,7 +35,7 @@ returns c =
     kept (record { it = c .args .m .number; me = c .args .m .to; clock = c .args .m .time; processes = c .args .processes; sent = c .args .process .now .sent })
     (c .args .code .now) (c .args .process .now .seed) (c .args .vars .now) (c .args .sends .now) (c .args .lines .now)
     (room (c .play .last .vars) (c .play .last .tally) (c .play .last .sends) (c .play .last .lines)) (c .measure-need .result)
-    (c .pre .few-sends) (c .pre .few-lines) (omega arith) (c .measure-need .ensures) (c .if-need-sends .left) (c .if-need-lines .left) (c .if-need-process .left) (c .play .ensures) in
+    (omega arith) (omega arith) (omega arith) (c .measure-need .ensures) (c .if-need-sends .left) (c .if-need-lines .left) (c .if-need-process .left) (c .play .ensures) in
     record {
       answers = k .answer-is;
       holds =
