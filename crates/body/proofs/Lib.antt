@@ -3,3 +3,4 @@ pub mod Acts
 pub mod Blocks
 pub mod Bridge
 pub mod Events
+pub mod Encode

@@ -5,6 +5,7 @@ ghost use mathlib.Core.Path.{_≡_};
 ghost use Prim.Native.Nat.{ℕ, _<_, _≤_};
 ghost use lib.ListN.{length, getD, drop, set};
 ghost use Rattle.body.specs.Code.{expr-op, line-op, result, Evaluated, body-of};
+ghost use Rattle.body.specs.Encode.{Words-decode};
 use meaning::Line;
 use meaning::Message;
 
@@ -141,7 +142,7 @@ fn word(words: &[u32], k: usize) -> u32
 }
 
 // The words behind the first k.
-fn skip(words: &[u32], k: usize) -> &[u32]
+pub fn skip(words: &[u32], k: usize) -> &[u32]
     ensures { λ r. ⌜ now r ≡ drop k (now (words .entry)) ⌝ }
 {
     if k < words.len() {
@@ -380,4 +381,11 @@ pub fn handle(
         sends: tally.sends as usize,
         lines: tally.lines as usize,
     })
+}
+
+// The words of lines stand for those lines, whatever stands behind them.
+pub fn words_decode() -> u8
+    ensures { λ _. ⌜ Words-decode ⌝ }
+{
+    0
 }
