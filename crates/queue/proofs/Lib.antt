@@ -1,4 +1,4 @@
-mod Many
-mod Order
-mod Shift
-mod Take
+pub mod Many
+pub mod Order
+pub mod Shift
+pub mod Take

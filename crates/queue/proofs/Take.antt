@@ -23,7 +23,7 @@ module _ (row : List Message) (len : ℕ) where
       sym (cond-true (leb len (length row)) (head-of (waiting row len)) None (le-leb len (length row) fits) ∙ ap head-of (waiting-first d some fits))
 
   -- there is a first only where something waits, in the row
-  some-waits : (x : Message) → Some x ≡ first-of row len → (0 < len) × (len ≤ length row)
+  pub some-waits : (x : Message) → Some x ≡ first-of row len → (0 < len) × (len ≤ length row)
   some-waits x e = grind (arith, tells)
 
   pub taken : (x : Message) → Some x ≡ first-of row len → Taken x row len (len - 1)

@@ -1,0 +1,250 @@
+// The meaning as a program: a step, and a run with a budget, over lent slices.
+ghost use lib.ListN.{length};
+ghost use mathlib.Core.Path.{_≡_};
+ghost use Prim.Native.Nat.{ℕ, _*_, _≤_, _<_, min};
+ghost use Rattle.body.specs.Play.{answer};
+ghost use Rattle.sequential.specs.Memory.{code-of, done-in, Did, Untouched, Memory, Shaped, Stepped, Run-in, Not-run, model-of, state-of, shaped, stops, outcome-of};
+ghost use Rattle.std.specs.Options.{Cases as BySome};
+ghost use Rattle.std.specs.Orderings.{When};
+ghost use Rattle.std.specs.Results.{Cases as ByOk};
+ghost use mathlib.Core.List.{List};
+use body::Counts;
+use body::Process;
+use body::Refusal;
+use body::handle;
+use body::skip;
+use meaning::Line;
+use meaning::Message;
+use queue::insert_all;
+use queue::take_first;
+
+// The most processes of a model.
+const PROCESSES: usize = 65536;
+
+// The places for the variables of one process.
+const WIDTH: usize = 64;
+
+// How far a run has come: how many messages wait in the row, and how many lines were said.
+#[derive(Clone, Copy)]
+#[repr(C)]
+pub struct Progress {
+    pub waiting: usize,
+    pub said: usize,
+}
+
+// Why a run stops: nothing is left before the end; the budget is used up, or the places for lines are; more messages would wait than there
+// are places; more lines were said at one message than there are places; a count would reach 2^64; the lent slices are too short.
+#[derive(Clone, Copy, Debug, PartialEq, Eq)]
+pub enum Outcome {
+    Ended,
+    Paused,
+    Waiting,
+    Lines,
+    Count,
+    Short,
+}
+
+// How a run ended, and after how many steps.
+#[derive(Clone, Copy)]
+pub struct Report {
+    pub outcome: Outcome,
+    pub steps: u64,
+}
+
+// The code of a kind: kinds has where each begins.
+fn code_of<'a>(code: &'a [u32], kinds: &[u32], kind: u32) -> &'a [u32]
+    ensures { λ r. ⌜ now r ≡ code-of (now (code .entry)) (now (kinds .entry)) kind ⌝ }
+{
+    let k = kind as usize;
+    if k < kinds.len() {
+        skip(code, kinds[k] as usize)
+    } else {
+        skip(code, code.len())
+    }
+}
+
+// How many variables a process has.
+fn width_of(process: Process) -> usize
+    ensures { λ r. ⌜ r ≡ min (process .width) 64 ⌝ }
+{
+    WIDTH.min(process.width as usize)
+}
+
+// What the process that m is for does with it; where there is no such process, nobody does it. In a refusal nothing lent has changed.
+fn handle_in(
+    code: &[u32],
+    kinds: &[u32],
+    processes: &mut [Process],
+    vars: &mut [u32],
+    m: Message,
+    sends: &mut [Message],
+    lines: &mut [Line],
+) -> Result<Counts, Refusal>
+    requires few { ⌜ length (now processes) ≤ 65536 ⌝ }
+    requires wide { ⌜ 64 * length (now processes) ≤ length (now vars) ⌝ }
+    requires timely { ⌜ m .time < 4294967296 ⌝ }
+    ensures answers { λ r. ⌜ r ≡ answer (done-in (now (code .entry)) (now (kinds .entry)) (now (processes .entry)) (now (vars .entry)) m) (length (now (sends .entry))) (length (now (lines .entry))) ⌝ }
+    ensures holds { λ r. ⌜ ByOk r
+        (λ _. Did (now (code .entry)) (now (kinds .entry)) m (now (processes .entry)) (now (vars .entry)) (now (sends .entry)) (now (lines .entry)) (now (processes .exit)) (now (vars .exit)) (now (sends .exit)) (now (lines .exit)))
+        (λ _. Untouched (now (processes .entry)) (now (vars .entry)) (now (sends .entry)) (now (lines .entry)) (now (processes .exit)) (now (vars .exit)) (now (sends .exit)) (now (lines .exit))) ⌝ }
+{
+    let k = m.to as usize;
+    let count = processes.len();
+    if k >= count {
+        let mut nobody = Process {
+            kind: 0,
+            width: 0,
+            seed: 0,
+            sent: 0,
+        };
+        return handle(
+            code_of(code, kinds, 0),
+            count as u32,
+            &mut nobody,
+            &mut [],
+            m,
+            sends,
+            lines,
+        );
+    }
+    let mut process = processes[k];
+    let from = k * WIDTH;
+    let to = from + width_of(process);
+    let done = handle(
+        code_of(code, kinds, process.kind),
+        count as u32,
+        &mut process,
+        &mut vars[from..to],
+        m,
+        sends,
+        lines,
+    );
+    processes[k] = process;
+    done
+}
+
+// Why a run stops at a refused message, where so many lines have been said before.
+fn outcome_of(refusal: Refusal, said: usize) -> Outcome
+    ensures { λ r. ⌜ r ≡ outcome-of refusal said ⌝ }
+{
+    match refusal {
+        Refusal::Sends => Outcome::Waiting,
+        Refusal::Lines if said == 0 => Outcome::Lines,
+        Refusal::Lines => Outcome::Paused,
+        Refusal::Count => Outcome::Count,
+    }
+}
+
+// One step of the meaning, or why the run stops here.
+fn step(
+    code: &[u32],
+    kinds: &[u32],
+    processes: &mut [Process],
+    vars: &mut [u32],
+    row: &mut [Message],
+    sends: &mut [Message],
+    lines: &mut [Line],
+    progress: &mut Progress,
+    end: u32,
+) -> Option<Outcome>
+    requires { ⌜ Shaped (record { processes = now processes; vars = now vars; row = now row; lines = now lines; progress = now progress }) (length (now sends)) ⌝ }
+    ensures answers { λ r. ⌜ ((ns : List (List ℕ)) → r ≡ stops (model-of (now (code .entry)) (now (kinds .entry)) (now (processes .entry)) ns) end (length (now (row .entry))) (length (now (lines .entry))) (state-of (record { processes = now (processes .entry); vars = now (vars .entry); row = now (row .entry); lines = now (lines .entry); progress = now (progress .entry) }))) ⌝ }
+    ensures holds { λ r. ⌜ BySome r
+        (Stepped (now (code .entry)) (now (kinds .entry)) end (length (now (sends .entry))) (record { processes = now (processes .entry); vars = now (vars .entry); row = now (row .entry); lines = now (lines .entry); progress = now (progress .entry) }) (record { processes = now (processes .exit); vars = now (vars .exit); row = now (row .exit); lines = now (lines .exit); progress = now (progress .exit) }))
+        (λ _. _≡_ {A = Memory} (record { processes = now (processes .exit); vars = now (vars .exit); row = now (row .exit); lines = now (lines .exit); progress = now (progress .exit) }) (record { processes = now (processes .entry); vars = now (vars .entry); row = now (row .entry); lines = now (lines .entry); progress = now (progress .entry) })) ⌝ }
+{
+    let mut waiting = progress.waiting;
+    let Some(m) = take_first(row, &mut waiting) else {
+        return Some(Outcome::Ended);
+    };
+    if m.time >= end as u64 {
+        return Some(Outcome::Ended);
+    }
+    let places = row.len() - waiting;
+    let said = progress.said;
+    match handle_in(
+        code,
+        kinds,
+        processes,
+        vars,
+        m,
+        &mut sends[0..places],
+        &mut lines[said..],
+    ) {
+        Ok(counts) => {
+            let sent = counts.sends;
+            let _ = insert_all(row, &mut waiting, &sends[0..sent]);
+            *progress = Progress {
+                waiting,
+                said: said + counts.lines,
+            };
+            None
+        }
+        Err(refusal) => Some(outcome_of(refusal, said)),
+    }
+}
+
+// Whether the lent slices are long enough for the processes and for what is in use.
+fn is_shaped(
+    processes: &[Process],
+    vars: &[u32],
+    row: &[Message],
+    sends: &[Message],
+    lines: &[Line],
+    progress: Progress,
+) -> bool
+    ensures { λ r. ⌜ r ≡ shaped (record { processes = now (processes .entry); vars = now (vars .entry); row = now (row .entry); lines = now (lines .entry); progress = progress }) (length (now (sends .entry))) ⌝ }
+{
+    let count = processes.len();
+    count <= PROCESSES
+        && WIDTH * count <= vars.len()
+        && row.len() <= sends.len()
+        && progress.waiting <= row.len()
+        && progress.said <= lines.len()
+}
+
+// A run of at most budget steps: it stops where nothing is left before the end or the next message cannot be handled.
+pub fn run(
+    code: &[u32],
+    kinds: &[u32],
+    processes: &mut [Process],
+    vars: &mut [u32],
+    row: &mut [Message],
+    sends: &mut [Message],
+    lines: &mut [Line],
+    progress: &mut Progress,
+    end: u32,
+    budget: u64,
+) -> Report
+    ensures { λ r. ⌜ When (shaped (record { processes = now (processes .entry); vars = now (vars .entry); row = now (row .entry); lines = now (lines .entry); progress = now (progress .entry) }) (length (now (sends .entry))))
+        (Run-in (now (code .entry)) (now (kinds .entry)) end budget (length (now (sends .entry))) (record { processes = now (processes .entry); vars = now (vars .entry); row = now (row .entry); lines = now (lines .entry); progress = now (progress .entry) }) r (record { processes = now (processes .exit); vars = now (vars .exit); row = now (row .exit); lines = now (lines .exit); progress = now (progress .exit) }))
+        (Not-run (record { processes = now (processes .entry); vars = now (vars .entry); row = now (row .entry); lines = now (lines .entry); progress = now (progress .entry) }) r (record { processes = now (processes .exit); vars = now (vars .exit); row = now (row .exit); lines = now (lines .exit); progress = now (progress .exit) })) ⌝ }
+{
+    if !is_shaped(processes, vars, row, sends, lines, *progress) {
+        return Report {
+            outcome: Outcome::Short,
+            steps: 0,
+        };
+    }
+    let mut steps = 0;
+    while steps < budget {
+        if let Some(outcome) = step(
+            code,
+            kinds,
+            processes,
+            vars,
+            row,
+            sends,
+            lines,
+            progress,
+            end,
+        ) {
+            return Report { outcome, steps };
+        }
+        steps += 1;
+    }
+    Report {
+        outcome: Outcome::Paused,
+        steps,
+    }
+}
