@@ -76,6 +76,7 @@ pub struct Tally {
 
 // A process in lent memory, beside its variables: its kind, how many variables it has, its seed, and how many messages it has sent.
 #[derive(Clone, Copy)]
+#[repr(C)]
 pub struct Process {
     pub kind: u32,
     pub width: u32,

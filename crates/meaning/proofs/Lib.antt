@@ -9,3 +9,4 @@ pub mod Commute
 pub mod Replay
 pub mod Runs
 pub mod Certificate
+pub mod Forget

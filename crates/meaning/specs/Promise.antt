@@ -2,9 +2,10 @@
 use mathlib.Core.Logic.{_≢_}
 use mathlib.Core.Path.{_≡_}
 use mathlib.Core.Bool.{true}
-use mathlib.Core.List.{List, []}
+use mathlib.Core.List.{List, [], _++_}
 use Prim.Native.Nat.{ℕ, _+_, _≤_, _<_}
 use lib.ListN.{length, getD}
+use Rattle.meaning.specs.declared.Line.{Line}
 use Rattle.meaning.specs.declared.Message.{Message}
 use Rattle.meaning.specs.Model.{Model, State, Process, Done, handle, handle-in, handled-in, before, steps, start}
 
@@ -42,3 +43,11 @@ abbrev pub Independent : Type 0
 Independent =
     (m : Model) (ps : List Process) (x y : Message) → x .to ≢ y .to →
     (handled-in m (handled-in m ps x) y ≡ handled-in m (handled-in m ps y) x) × (handle-in m (handled-in m ps y) x ≡ handle-in m ps x)
+
+-- Lines that were said before: a state with these in front of its own.
+unfoldable pub said-before : List Line → State → State
+said-before ls s = record { processes = s .processes; pending = s .pending; said = ls ++ s .said }
+
+-- What was said before changes nothing of what follows: a run may print its lines and forget them, and go on.
+abbrev pub May-forget : Type 0
+May-forget = (m : Model) (end k : ℕ) (ls : List Line) (s : State) → steps m end k (said-before ls s) ≡ said-before ls (steps m end k s)

@@ -1,11 +1,12 @@
 // The meaning of a model, as definitions in specs/, and what is proved of it. The code above is held to these definitions.
 ghost use Rattle.meaning.specs.Law.{Whole-run};
-ghost use Rattle.meaning.specs.Promise.{In-order, Independent, Later};
+ghost use Rattle.meaning.specs.Promise.{In-order, Independent, Later, May-forget};
 ghost use Rattle.meaning.specs.Worked.{Worked-models};
 
 // A message: for when, to and from which process, its number among those that its sender has sent, and what it carries.
 // One from outside is from the number behind the last process.
 #[derive(Clone, Copy)]
+#[repr(C)]
 pub struct Message {
     pub time: u64,
     pub to: u32,
@@ -16,6 +17,7 @@ pub struct Message {
 
 // A line said: when, by which process, and what.
 #[derive(Clone, Copy)]
+#[repr(C)]
 pub struct Line {
     pub time: u64,
     pub process: u32,
@@ -53,6 +55,13 @@ pub fn independent() -> u8
 // A run handles the one history that there is, and says what it says.
 pub fn whole_run() -> u8
     ensures { λ _. ⌜ Whole-run ⌝ }
+{
+    0
+}
+
+// A run may print its lines and forget them, and go on.
+pub fn may_forget() -> u8
+    ensures { λ _. ⌜ May-forget ⌝ }
 {
     0
 }

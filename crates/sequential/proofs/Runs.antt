@@ -8,14 +8,15 @@ use native.Mathlib.Omega.{arith}
 use borrow.Author.Count.{below-none, below-more}
 use lib.Dec.{leb}
 use lib.ListN.{length}
+use Rattle.std.specs.Orderings.{When}
 use Rattle.std.specs.declared.option.Option.the-variants.{Some, None}
 use Rattle.std.proofs.shelf.Tests.{and-parts, and-from, leb-true, le-leb}
 use Rattle.meaning.specs.Model.{Model, State, step, steps}
 use Rattle.meaning.proofs.Runs.{steps-add}
 use Rattle.sequential.specs.declared.Report.{Report}
 use Rattle.sequential.specs.declared.Outcome.{Outcome}
-use Rattle.sequential.specs.declared.Outcome.the-variants.{Paused}
-use Rattle.sequential.specs.Memory.{Memory, state-of, model-of, shaped, Shaped, stops, Stepped, Ran, Run-in}
+use Rattle.sequential.specs.declared.Outcome.the-variants.{Paused, Short}
+use Rattle.sequential.specs.Memory.{Memory, state-of, model-of, shaped, Shaped, stops, Stepped, Ran, Run-in, Not-run}
 
 pub shaped-facts : (y : Memory) (n : ℕ) → shaped y n ≡ true → Shaped y n
 shaped-facts y n h =
@@ -94,3 +95,10 @@ module _ (code kinds : List ℕ) (end sends : ℕ) (y z : Memory) (k : ℕ) (r :
         widths-are = r .widths-are;
         shaped-still = shaped-test z sends (r .shaped-still);
       }
+
+-- A report by its number of steps alone.
+pub steps-only : (b : Bool) (code kinds : List ℕ) (end budget sends : ℕ) (y : Memory) (r : Report) (y′ : Memory) →
+    When b (Run-in code kinds end budget sends y r y′) (Not-run y r y′) →
+    When b ((o : Outcome) × Run-in code kinds end budget sends y (record { outcome = o; steps = r .steps }) y′) (Not-run y (record { outcome = Short; steps = r .steps }) y′)
+steps-only true code kinds end budget sends y r y′ h = (r .outcome, h)
+steps-only false code kinds end budget sends y r y′ h = record { refused = ap (λ q. record { outcome = Short; steps = q .steps }) (h .refused); same = h .same }

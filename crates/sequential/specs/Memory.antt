@@ -10,7 +10,8 @@ use Rattle.std.specs.declared.option.Option.{Option}
 use Rattle.std.specs.declared.option.Option.the-variants.{Some, None}
 use Rattle.meaning.specs.declared.Message.{Message}
 use Rattle.meaning.specs.declared.Line.{Line}
-use Rattle.meaning.specs.Model.{Model, Body, Done, State, Process as Actor, handle-in, handled-in, step, steps}
+use Rattle.meaning.specs.Model.{Model, Body, Done, State, Process as Actor, handle-in, handled-in, step, steps, start, next-seed}
+use Rattle.meaning.specs.Promise.{Proper, Outside, Sorted}
 use Rattle.body.specs.declared.Process.{Process}
 use Rattle.body.specs.declared.Refusal.{Refusal}
 use Rattle.body.specs.declared.Refusal.the-variants as Refusal
@@ -19,6 +20,8 @@ use Rattle.body.specs.Play.{top, filled}
 use Rattle.queue.specs.Row.{waiting}
 use Rattle.sequential.specs.declared.Progress.{Progress}
 use Rattle.sequential.specs.declared.Report.{Report}
+use Rattle.sequential.specs.declared.Unready.{Unready}
+use Rattle.sequential.specs.declared.Unready.the-variants as Unready
 use Rattle.sequential.specs.declared.Outcome.{Outcome}
 use Rattle.sequential.specs.declared.Outcome.the-variants.{Ended, Paused, Waiting, Lines, Count, Short}
 
@@ -149,3 +152,41 @@ pub record Run-in (code kinds : List ℕ) (end budget sends : ℕ) (y : Memory) 
 pub record Not-run (y : Memory) (r : Report) (y′ : Memory) : Type 0 where
   pub refused : r ≡ record { outcome = Short; steps = 0 }
   pub same : y′ ≡ y
+
+-- Processes at the start, from number k on: a seed from the run's seed and the process's number, and nothing sent.
+unfoldable pub started : ℕ → ℕ → List Process → List Process
+started luck k [] = []
+started luck k (p ∷ ps) =
+    record { kind = p .kind; width = p .width; seed = next-seed (next-seed (luck + k)); sent = 0 } ∷ started luck (suc k) ps
+
+-- The variables of each process.
+unfoldable pub numbers-of : List Process → List ℕ → List (List ℕ)
+numbers-of [] vs = []
+numbers-of (p ∷ ps) vs = take (min (p .width) 64) vs ∷ numbers-of ps (drop 64 vs)
+
+-- Lent memory stands for the start of the model with these variables, whatever the code, the kinds and the places for lines are.
+pub record Begun (luck : ℕ) (outside : List Message) (ps ps′ : List Process) (row′ : List Message) (g′ : Progress) : Type 0 where
+  pub processes-are : ps′ ≡ started luck 0 ps
+  pub kinds-are : map (λ p. p .kind) ps′ ≡ map (λ p. p .kind) ps
+  pub widths-are : map (λ p. p .width) ps′ ≡ map (λ p. p .width) ps
+  pub in-row : g′ .waiting ≤ length row′
+  pub stands : (code kinds vs : List ℕ) (lines : List Line) →
+    state-of (record { processes = ps′; vars = vs; row = row′; lines = lines; progress = g′ })
+    ≡ start (model-of code kinds ps (numbers-of ps vs)) luck outside
+
+-- Why a run cannot begin, if so: the run's seed is 2^31 or more, there are more than 65,536 processes, or more messages than places.
+abbrev pub unready : ℕ → ℕ → ℕ → ℕ → Option Unready
+unready luck processes messages places =
+    cond (ltb luck 2147483648) (cond (leb processes 65536) (cond (leb messages places) None (Some Unready.Messages)) (Some Unready.Processes)) (Some Unready.Seed)
+
+-- Nothing lent has changed.
+pub record Unbegun (ps : List Process) (row : List Message) (g : Progress) (ps′ : List Process) (row′ : List Message) (g′ : Progress) : Type 0 where
+  pub processes-are : ps′ ≡ ps
+  pub row-is : row′ ≡ row
+  pub progress-is : g′ ≡ g
+
+-- In the row in lent memory messages wait in their order, and no two are the same, wherever a run from the start has come to.
+abbrev pub Row-in-order : Type 0
+Row-in-order =
+    (m : Model) (luck end k : ℕ) (xs : List Message) (y : Memory) → Proper m → Outside m xs → state-of y ≡ steps m end k (start m luck xs) →
+    Sorted (waiting (y .row) (y .progress .waiting))

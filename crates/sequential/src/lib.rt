@@ -3,15 +3,16 @@ ghost use lib.ListN.{length};
 ghost use mathlib.Core.Path.{_≡_};
 ghost use Prim.Native.Nat.{ℕ, _*_, _≤_, _<_, min};
 ghost use Rattle.body.specs.Play.{answer};
-ghost use Rattle.sequential.specs.Memory.{code-of, done-in, Did, Untouched, Memory, Shaped, Stepped, Run-in, Not-run, model-of, state-of, shaped, stops, outcome-of};
+ghost use Rattle.sequential.specs.Memory.{Row-in-order, Begun, Unbegun, unready, started, code-of, done-in, Did, Untouched, Memory, Shaped, Stepped, Run-in, Not-run, model-of, state-of, shaped, stops, outcome-of};
 ghost use Rattle.std.specs.Options.{Cases as BySome};
 ghost use Rattle.std.specs.Orderings.{When};
-ghost use Rattle.std.specs.Results.{Cases as ByOk};
+ghost use Rattle.std.specs.Results.{Cases as ByOk, errPart};
 ghost use mathlib.Core.List.{List};
 use body::Counts;
 use body::Process;
 use body::Refusal;
 use body::handle;
+use body::next_seed;
 use body::skip;
 use meaning::Line;
 use meaning::Message;
@@ -44,11 +45,58 @@ pub enum Outcome {
     Short,
 }
 
+// Why a run cannot begin: the run's seed is 2^31 or more, there are too many processes, or more messages than places.
+#[derive(Clone, Copy, Debug, PartialEq, Eq)]
+pub enum Unready {
+    Seed,
+    Processes,
+    Messages,
+}
+
 // How a run ended, and after how many steps.
 #[derive(Clone, Copy)]
 pub struct Report {
     pub outcome: Outcome,
     pub steps: u64,
+}
+
+// The most that the run's seed may be, and one more.
+const SEEDS: u32 = 2147483648;
+
+// Each process gets a seed from the run's seed and its number, and has sent nothing.
+fn start_all(processes: &mut [Process], luck: u32)
+    requires seed { ⌜ luck < 2147483648 ⌝ }
+    requires few { ⌜ length (now processes) ≤ 65536 ⌝ }
+    ensures { λ _. ⌜ now (processes .exit) ≡ started luck 0 (now (processes .entry)) ⌝ }
+{
+    for k in 0..processes.len() {
+        let seed = next_seed(next_seed(luck + k as u32));
+        let p = processes[k];
+        processes[k] = Process { kind: p.kind, width: p.width, seed, sent: 0 };
+    }
+}
+
+// The start of a run: seeds, nothing sent or said, and the messages from outside in their order. In a refusal nothing lent has changed.
+pub fn begin(processes: &mut [Process], row: &mut [Message], progress: &mut Progress, luck: u32, outside: &[Message]) -> Result<(), Unready>
+    ensures answers { λ r. ⌜ errPart r ≡ unready luck (length (now (processes .entry))) (length (now (outside .entry))) (length (now (row .entry))) ⌝ }
+    ensures holds { λ r. ⌜ ByOk r
+        (λ _. Begun luck (now (outside .entry)) (now (processes .entry)) (now (processes .exit)) (now (row .exit)) (now (progress .exit)))
+        (λ _. Unbegun (now (processes .entry)) (now (row .entry)) (now (progress .entry)) (now (processes .exit)) (now (row .exit)) (now (progress .exit))) ⌝ }
+{
+    if luck >= SEEDS {
+        return Err(Unready::Seed);
+    }
+    if processes.len() > PROCESSES {
+        return Err(Unready::Processes);
+    }
+    if outside.len() > row.len() {
+        return Err(Unready::Messages);
+    }
+    start_all(processes, luck);
+    let mut waiting = 0;
+    let _ = insert_all(row, &mut waiting, outside);
+    *progress = Progress { waiting, said: 0 };
+    Ok(())
 }
 
 // The code of a kind: kinds has where each begins.
@@ -247,4 +295,21 @@ pub fn run(
         outcome: Outcome::Paused,
         steps,
     }
+}
+
+// The same for callers in C and Rust: how many steps were done.
+#[unsafe(no_mangle)]
+pub extern "C" fn sequential_run(code: &[u32], kinds: &[u32], processes: &mut [Process], vars: &mut [u32], row: &mut [Message], sends: &mut [Message], lines: &mut [Line], progress: &mut Progress, end: u32, budget: u64) -> u64
+    ensures { λ r. ⌜ When (shaped (record { processes = now (processes .entry); vars = now (vars .entry); row = now (row .entry); lines = now (lines .entry); progress = now (progress .entry) }) (length (now (sends .entry))))
+        ((o : Outcome) × Run-in (now (code .entry)) (now (kinds .entry)) end budget (length (now (sends .entry))) (record { processes = now (processes .entry); vars = now (vars .entry); row = now (row .entry); lines = now (lines .entry); progress = now (progress .entry) }) (record { outcome = o; steps = r }) (record { processes = now (processes .exit); vars = now (vars .exit); row = now (row .exit); lines = now (lines .exit); progress = now (progress .exit) }))
+        (Not-run (record { processes = now (processes .entry); vars = now (vars .entry); row = now (row .entry); lines = now (lines .entry); progress = now (progress .entry) }) (record { outcome = Outcome.Short; steps = r }) (record { processes = now (processes .exit); vars = now (vars .exit); row = now (row .exit); lines = now (lines .exit); progress = now (progress .exit) })) ⌝ }
+{
+    run(code, kinds, processes, vars, row, sends, lines, progress, end, budget).steps
+}
+
+// In the row in lent memory messages wait in their order, and no two are the same.
+pub fn row_in_order() -> u8
+    ensures { λ _. ⌜ Row-in-order ⌝ }
+{
+    0
 }
