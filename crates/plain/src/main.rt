@@ -1,33 +1,117 @@
-// plain: plays models one message after the other, and prints what they say.
-use body::Process;
+// plain: plays models one message after the other, and prints what they say. Until texts are read it has a table of models.
+mod table;
+
 use meaning::Line;
 use meaning::Message;
 use sequential::Outcome;
+use sequential::OutcomePartialEq;
 use sequential::Progress;
 use sequential::begin;
 use sequential::run;
+use std::alloc::AllocError;
+use std::alloc::Global;
 use std::error::AnyError;
+use table::Example;
 
 // Messages handled between two prints.
 const BUDGET: u64 = 1000;
 
-// A model as words, with its messages from outside and its end.
-#[derive(Clone, Copy)]
-struct Example {
-    name: &'static str,
-    code: &'static [u32],
-    kinds: &'static [u32],
-    processes: &'static [Process],
-    // the first variable of each process; the others are 0
-    first: u32,
-    outside: &'static [Message],
-    end: u32,
+// Places for waiting messages and for lines.
+const PLACES: usize = 64;
+
+// The run's seed.
+const LUCK: u32 = 1;
+
+// The variables of all processes, 64 places for each: the first as the model says, the others 0.
+fn variables(heap: Global, e: Example) -> Result<Vec<u32>, AllocError> {
+    let mut vars = Vec::new(heap);
+    for _process in 0..e.processes.len() {
+        vars.push(e.first)?;
+        for _place in 1..64 {
+            vars.push(0)?;
+        }
+    }
+    Ok(vars)
 }
 
-const fn process(kind: u32, width: u32) -> Process {
-    Process { kind, width, seed: 0, sent: 0 }
+// Prints the first of the lines.
+fn print_lines(rt: &impl Print, lines: &[Line], count: usize) -> Result<(), AnyError> {
+    for line in lines.iter().take(count) {
+        let time = line.time;
+        let process = line.process;
+        let number = line.number;
+        println!(rt, "{time} {process} {number}")?;
+    }
+    Ok(())
+}
+
+// Plays a model to its end; false if it cannot be.
+fn play(rt: &impl Print, heap: Global, e: Example) -> Result<bool, AnyError> {
+    let nothing = Message {
+        time: 0,
+        to: 0,
+        from: 0,
+        count: 0,
+        number: 0,
+    };
+    let mut processes = Vec::from_slice(heap, e.processes)?;
+    let mut vars = variables(heap, e)?;
+    let mut row = vec![in heap; nothing; PLACES]?;
+    let mut sends = vec![in heap; nothing; PLACES]?;
+    let mut lines = vec![in heap; Line {
+        time: 0,
+        process: 0,
+        number: 0
+    }; PLACES]?;
+    let mut progress = Progress {
+        waiting: 0,
+        said: 0,
+    };
+    if begin(
+        processes.as_mut_slice(),
+        row.as_mut_slice(),
+        &mut progress,
+        LUCK,
+        e.outside,
+    ).is_err() {
+        return Ok(false);
+    }
+    for _turn in 0..u64::MAX {
+        let report = run(
+            e.code,
+            e.kinds,
+            processes.as_mut_slice(),
+            vars.as_mut_slice(),
+            row.as_mut_slice(),
+            sends.as_mut_slice(),
+            lines.as_mut_slice(),
+            &mut progress,
+            e.end,
+            BUDGET,
+        );
+        print_lines(rt, lines.as_slice(), progress.said)?;
+        progress.said = 0;
+        if report.outcome != Outcome::Paused {
+            return Ok(report.outcome == Outcome::Ended);
+        }
+    }
+    Ok(false)
+}
+
+fn play_all(rt: &impl Print, heap: Global) -> Result<(), AnyError> {
+    for k in 0..table::COUNT {
+        let e = table::entry(k);
+        let name = e.name;
+        println!(rt, "model {name}")?;
+        if play(rt, heap, e)? {
+            println!(rt, "done")?;
+        } else {
+            println!(rt, "not done")?;
+        }
+    }
+    Ok(())
 }
 
 fn main(rt: LibcRuntime) -> Result<(), AnyError> {
-    Ok(())
+    rt.report(play_all(&rt, rt.alloc()))
 }

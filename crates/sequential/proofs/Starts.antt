@@ -63,7 +63,8 @@ begun luck outside ps ps′ row row′ len′ T E r e l lr h =
       widths-are = ap (λ q. map (λ p. p .width) q) e ∙ started-field (λ p. p .width) (λ a b p. refl) luck 0 ps;
       in-row = omega (arith, i .as-many-more, i .room);
       stands = λ code kinds vs lines.
-        λ j. record { processes = (ap (λ q. actors q vs) e ∙ started-actors luck 0 ps vs) j; pending = i .in-place j; said = [] } }
+          λ j. record { processes = (ap (λ q. actors q vs) e ∙ started-actors luck 0 ps vs) j; pending = i .in-place j; said = [] };
+    }
   where
     put-in : (r : Result T E) → Cases r (λ _. Inserted-all outside row 0 row′ len′) (λ _. Refused (length outside) row 0 row′ len′) → Inserted-all outside row 0 row′ len′
     put-in (Ok x) h = h

@@ -171,8 +171,8 @@ pub record Begun (luck : ℕ) (outside : List Message) (ps ps′ : List Process)
   pub widths-are : map (λ p. p .width) ps′ ≡ map (λ p. p .width) ps
   pub in-row : g′ .waiting ≤ length row′
   pub stands : (code kinds vs : List ℕ) (lines : List Line) →
-    state-of (record { processes = ps′; vars = vs; row = row′; lines = lines; progress = g′ })
-    ≡ start (model-of code kinds ps (numbers-of ps vs)) luck outside
+      state-of (record { processes = ps′; vars = vs; row = row′; lines = lines; progress = g′ })
+      ≡ start (model-of code kinds ps (numbers-of ps vs)) luck outside
 
 -- Why a run cannot begin, if so: the run's seed is 2^31 or more, there are more than 65,536 processes, or more messages than places.
 abbrev pub unready : ℕ → ℕ → ℕ → ℕ → Option Unready

@@ -72,12 +72,23 @@ fn start_all(processes: &mut [Process], luck: u32)
     for k in 0..processes.len() {
         let seed = next_seed(next_seed(luck + k as u32));
         let p = processes[k];
-        processes[k] = Process { kind: p.kind, width: p.width, seed, sent: 0 };
+        processes[k] = Process {
+            kind: p.kind,
+            width: p.width,
+            seed,
+            sent: 0,
+        };
     }
 }
 
 // The start of a run: seeds, nothing sent or said, and the messages from outside in their order. In a refusal nothing lent has changed.
-pub fn begin(processes: &mut [Process], row: &mut [Message], progress: &mut Progress, luck: u32, outside: &[Message]) -> Result<(), Unready>
+pub fn begin(
+    processes: &mut [Process],
+    row: &mut [Message],
+    progress: &mut Progress,
+    luck: u32,
+    outside: &[Message],
+) -> Result<(), Unready>
     ensures answers { λ r. ⌜ errPart r ≡ unready luck (length (now (processes .entry))) (length (now (outside .entry))) (length (now (row .entry))) ⌝ }
     ensures holds { λ r. ⌜ ByOk r
         (λ _. Begun luck (now (outside .entry)) (now (processes .entry)) (now (processes .exit)) (now (row .exit)) (now (progress .exit)))
@@ -299,12 +310,34 @@ pub fn run(
 
 // The same for callers in C and Rust: how many steps were done.
 #[unsafe(no_mangle)]
-pub extern "C" fn sequential_run(code: &[u32], kinds: &[u32], processes: &mut [Process], vars: &mut [u32], row: &mut [Message], sends: &mut [Message], lines: &mut [Line], progress: &mut Progress, end: u32, budget: u64) -> u64
+pub extern "C" fn sequential_run(
+    code: &[u32],
+    kinds: &[u32],
+    processes: &mut [Process],
+    vars: &mut [u32],
+    row: &mut [Message],
+    sends: &mut [Message],
+    lines: &mut [Line],
+    progress: &mut Progress,
+    end: u32,
+    budget: u64,
+) -> u64
     ensures { λ r. ⌜ When (shaped (record { processes = now (processes .entry); vars = now (vars .entry); row = now (row .entry); lines = now (lines .entry); progress = now (progress .entry) }) (length (now (sends .entry))))
         ((o : Outcome) × Run-in (now (code .entry)) (now (kinds .entry)) end budget (length (now (sends .entry))) (record { processes = now (processes .entry); vars = now (vars .entry); row = now (row .entry); lines = now (lines .entry); progress = now (progress .entry) }) (record { outcome = o; steps = r }) (record { processes = now (processes .exit); vars = now (vars .exit); row = now (row .exit); lines = now (lines .exit); progress = now (progress .exit) }))
         (Not-run (record { processes = now (processes .entry); vars = now (vars .entry); row = now (row .entry); lines = now (lines .entry); progress = now (progress .entry) }) (record { outcome = Outcome.Short; steps = r }) (record { processes = now (processes .exit); vars = now (vars .exit); row = now (row .exit); lines = now (lines .exit); progress = now (progress .exit) })) ⌝ }
 {
-    run(code, kinds, processes, vars, row, sends, lines, progress, end, budget).steps
+    run(
+        code,
+        kinds,
+        processes,
+        vars,
+        row,
+        sends,
+        lines,
+        progress,
+        end,
+        budget,
+    ).steps
 }
 
 // In the row in lent memory messages wait in their order, and no two are the same.

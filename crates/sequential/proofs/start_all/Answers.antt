@@ -11,7 +11,7 @@ pub loop-k-again : need.loop-k-again
 loop-k-again c =
     let seed : c .next-seed-seed .result ≡ next-seed (next-seed (c .args .luck + c .loop-k .k)) = c .next-seed-seed .ensures ∙ ap next-seed (c .next-seed .ensures) in
     one-started (c .args .luck) (c .loop-k .k) (c .loop-k .processes) _ (omega (arith, c .loop-k-test .taken, c .loop-k .kept .processes))
-      (λ i. record { kind = getD (c .loop-k .processes) (c .loop-k .k) absent .kind; width = getD (c .loop-k .processes) (c .loop-k .k) absent .width; seed = seed i; sent = 0 })
+    (λ i. record { kind = getD (c .loop-k .processes) (c .loop-k .k) absent .kind; width = getD (c .loop-k .processes) (c .loop-k .k) absent .width; seed = seed i; sent = 0 })
     ∙ c .loop-k .inv
 
 pub returns : need.returns
