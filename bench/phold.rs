@@ -565,7 +565,7 @@ fn measured(population: u32, budget: u64) {
     println!(" {:.1} | {:.0} % |", each(inserting), 100.0 * inserting.as_secs_f64() / best[0].as_secs_f64());
 }
 
-const SIZES: [(u32, u64); 3] = [(1_000, 2_000_000), (10_000, 200_000), (65_000, 20_000)];
+const SIZES: [(u32, u64); 3] = [(1_000, 2_000_000), (10_000, 200_000), (65_000, 50_000)];
 
 fn main() {
     println!("ns for each message handled, the best of {RUNS} runs; speed: the time of the other over that of the verified run");
