@@ -24,7 +24,7 @@ case $#:${1-} in
     ;;
 esac
 
-here=$(CDPATH= cd -- "$(dirname -- "$0")" && pwd -P)
+here=$(CDPATH='' cd -- "$(dirname -- "$0")" && pwd -P)
 root=$(dirname -- "$here")
 library=$root/target/staticlib/libsequential.a
 out=$root/target/bench
