@@ -1,4 +1,10 @@
 // plain: plays models one message after the other, and prints what they say. Until texts are read it has a table of models.
+ghost use Prim.Native.Nat.{_*_};
+ghost use Rattle.std.specs.Of.Vec.{vec-len};
+ghost use Rattle.std.specs.Vec.{made};
+ghost use lib.ListN.{length};
+ghost use mathlib.Core.Path.{_≡_};
+
 mod table;
 
 use meaning::Line;
@@ -22,12 +28,29 @@ const PLACES: usize = 64;
 // The run's seed.
 const LUCK: u32 = 1;
 
+// A place with no message, and one with no line.
+const NOTHING: Message = Message {
+    time: 0,
+    to: 0,
+    from: 0,
+    count: 0,
+    number: 0,
+};
+
+const BLANK: Line = Line {
+    time: 0,
+    process: 0,
+    number: 0,
+};
+
 // The variables of all processes, 64 places for each: the first as the model says, the others 0.
-fn variables(heap: Global, e: Example) -> Result<Vec<u32>, AllocError> {
+fn variables(heap: Global, e: Example) -> Result<Vec<u32>, AllocError>
+    ensures { λ r. ⌜ made r (λ v. vec-len v ≡ 64 * length (now (e .processes))) ⌝ }
+{
     let mut vars = Vec::new(heap);
     for _process in 0..e.processes.len() {
         vars.push(e.first)?;
-        for _place in 1..64 {
+        for _place in 1..64usize {
             vars.push(0)?;
         }
     }
@@ -47,22 +70,11 @@ fn print_lines(rt: &impl Print, lines: &[Line], count: usize) -> Result<(), AnyE
 
 // Plays a model to its end; false if it cannot be.
 fn play(rt: &impl Print, heap: Global, e: Example) -> Result<bool, AnyError> {
-    let nothing = Message {
-        time: 0,
-        to: 0,
-        from: 0,
-        count: 0,
-        number: 0,
-    };
     let mut processes = Vec::from_slice(heap, e.processes)?;
     let mut vars = variables(heap, e)?;
-    let mut row = vec![in heap; nothing; PLACES]?;
-    let mut sends = vec![in heap; nothing; PLACES]?;
-    let mut lines = vec![in heap; Line {
-        time: 0,
-        process: 0,
-        number: 0
-    }; PLACES]?;
+    let mut row = vec![in heap; NOTHING; PLACES]?;
+    let mut sends = vec![in heap; NOTHING; PLACES]?;
+    let mut lines = vec![in heap; BLANK; PLACES]?;
     let mut progress = Progress {
         waiting: 0,
         said: 0,

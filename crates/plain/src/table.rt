@@ -1,4 +1,8 @@
 // The worked models A to G as words: each is small, and shows one rule of the meaning.
+ghost use Rattle.meaning.specs.Worked.{echo as echo-model, rally as rally-model, sum as sum-model, fan as fan-model, wrap as wrap-model};
+ghost use Rattle.plain.specs.Table.{all-words, dice-lines, count-lines};
+ghost use mathlib.Core.List.{[], _∷_};
+ghost use mathlib.Core.Path.{_≡_};
 use body::Process;
 use meaning::Message;
 
@@ -51,7 +55,9 @@ const FIRST: Message = Message {
 };
 
 // say it
-fn echo() -> Example {
+fn echo() -> Example
+    ensures { λ r. ⌜ now (r .code) ≡ all-words (echo-model .model .bodies) ⌝ }
+{
     let outside = &[Message {
         time: 5,
         to: 0,
@@ -71,7 +77,9 @@ fn echo() -> Example {
 }
 
 // say it / if (it < 3) / send (it + 1) to (1 - me) after 2 / end
-fn rally() -> Example {
+fn rally() -> Example
+    ensures { λ r. ⌜ now (r .code) ≡ all-words (rally-model .model .bodies) ⌝ }
+{
     let code = &[
         3,
         2,
@@ -116,7 +124,9 @@ fn rally() -> Example {
 }
 
 // a = (a + it) / say a
-fn sum() -> Example {
+fn sum() -> Example
+    ensures { λ r. ⌜ now (r .code) ≡ all-words (sum-model .model .bodies) ⌝ }
+{
     let outside = &[
         Message {
             time: 3,
@@ -152,7 +162,9 @@ fn sum() -> Example {
 }
 
 // a = draw 6 / say a / send 0 to me after 1
-fn dice() -> Example {
+fn dice() -> Example
+    ensures { λ r. ⌜ now (r .code) ≡ all-words (dice-lines ∷ []) ⌝ }
+{
     let code = &[2, 0, 0, 6, 3, 1, 0, 4, 0, 1, 3, 0, 0, 0];
     Example {
         name: "D",
@@ -166,7 +178,9 @@ fn dice() -> Example {
 }
 
 // again it / a = (a + 1) / end / say a
-fn count_up() -> Example {
+fn count_up() -> Example
+    ensures { λ r. ⌜ now (r .code) ≡ all-words (count-lines ∷ []) ⌝ }
+{
     let code = &[6, 8, 2, 1, 0, 5, 1, 0, 0, 1, 0, 3, 1, 0, 0];
     let outside = &[Message {
         time: 0,
@@ -187,7 +201,9 @@ fn count_up() -> Example {
 }
 
 // send 1 to 1 after 0 / send 2 to 1 after 1 / send 3 to 9 after 1, and for the second kind: say it
-fn fan() -> Example {
+fn fan() -> Example
+    ensures { λ r. ⌜ now (r .code) ≡ all-words (fan-model .model .bodies) ⌝ }
+{
     let code = &[
         4,
         0,
@@ -234,7 +250,9 @@ fn fan() -> Example {
 }
 
 // say (0 - 1) / say (7 / 0) / say (7 % 4)
-fn wrap() -> Example {
+fn wrap() -> Example
+    ensures { λ r. ⌜ now (r .code) ≡ all-words (wrap-model .model .bodies) ⌝ }
+{
     let code = &[3, 6, 0, 0, 0, 1, 3, 8, 0, 7, 0, 0, 3, 9, 0, 7, 0, 4, 0];
     Example {
         name: "G",
