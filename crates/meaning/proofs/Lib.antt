@@ -10,3 +10,4 @@ pub mod Replay
 pub mod Runs
 pub mod Certificate
 pub mod Forget
+pub mod Agree

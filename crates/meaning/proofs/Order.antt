@@ -82,6 +82,12 @@ apart a b h =
     differ e (inl c) = absurd (h e c)
     differ e (inr k) = k
 
+-- Messages to different processes are apart.
+pub apart-to : (a b : Message) → (a .to ≡ b .to → ⊥) → Apart a b
+apart-to a b h =
+    ⊎-elim (λ l. inl (before-decides a b .1 l)) (λ l. inr (before-decides b a .1 l))
+    (level-total (a .time) (b .time) (λ _. level-total (a .to) (b .to) (λ e. absurd (h e))))
+
 -- Messages in either order would be the same one.
 pub before-asymmetric : (a b : Message) → before a b ≡ true → before b a ≡ true → ⊥
 before-asymmetric a b h k = before-irreflexive a (before-trans a b a h k)

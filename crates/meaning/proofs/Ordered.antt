@@ -1,11 +1,11 @@
 -- Lists of messages in strict order, and insertion into them.
-use mathlib.Core.Path.{_≡_, refl, sym, _∙_, ap₂, subst}
+use mathlib.Core.Path.{_≡_, refl, sym, _∙_, ap, ap₂, subst}
 use mathlib.Core.Bool.{true, false}
 use mathlib.Core.List.{List, [], _∷_}
 use mathlib.Core.Logic.{_⊎_, inl, inr}
-use Prim.Native.Nat.{zero, suc}
+use Prim.Native.Nat.{zero, suc, _+_}
 use native.Mathlib.Omega.{arith}
-use lib.ListN.{getD}
+use lib.ListN.{length, getD}
 use Rattle.std.specs.shelf.Lists.{All}
 use Rattle.std.proofs.shelf.Lists.{getD-default}
 use Rattle.std.proofs.shelf.Elements.{all-getD, all-from-getD, all-weaker}
@@ -142,3 +142,18 @@ insert-all-ordered (x ∷ xs) ys h d a =
     still : (zs : List Message) → All (Apart x) zs → All (λ z. All (Apart z) ys) zs → All (λ z. All (Apart z) (insert x ys)) zs
     still [] p q = tt
     still (z ∷ zs) p q = (all-insert (Apart z) x ys (apart-swap x z (p .0)) (q .0), still zs (p .1) (q .1))
+
+pub ordered-distinct : (xs : List Message) → Ordered xs → Distinct xs
+ordered-distinct [] h = tt
+ordered-distinct (x ∷ xs) h = (all-weaker (λ y. before x y ≡ true) (Apart x) (λ y b. inl b) xs (h .0), ordered-distinct xs (h .1))
+
+pub length-insert : (x : Message) (ys : List Message) → length (insert x ys) ≡ suc (length ys)
+unfolding insert
+length-insert x [] = refl
+length-insert x (y ∷ ys) =
+    cond-both (before x y) (x ∷ y ∷ ys) (y ∷ insert x ys) (λ zs. length zs ≡ suc (suc (length ys))) (λ _. refl) (λ _. ap suc (length-insert x ys))
+
+pub length-insert-all : (xs ys : List Message) → length (insert-all xs ys) ≡ length xs + length ys
+unfolding insert-all
+length-insert-all [] ys = omega arith
+length-insert-all (x ∷ xs) ys = omega (arith, length-insert-all xs (insert x ys), length-insert x ys)

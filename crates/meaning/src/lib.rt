@@ -1,4 +1,5 @@
 // The meaning of a model, as definitions in specs/, and what is proved of it. The code above is held to these definitions.
+ghost use Rattle.meaning.specs.Agree.{Agreement};
 ghost use Rattle.meaning.specs.Law.{Whole-run};
 ghost use Rattle.meaning.specs.Promise.{In-order, Independent, Later, May-forget};
 ghost use Rattle.meaning.specs.Worked.{Worked-models};
@@ -62,6 +63,13 @@ pub fn whole_run() -> u8
 // A run may print its lines and forget them, and go on.
 pub fn may_forget() -> u8
     ensures { λ _. ⌜ May-forget ⌝ }
+{
+    0
+}
+
+// Players who agree on what they sent each other before a time have together played what the meaning plays before it.
+pub fn agreement() -> u8
+    ensures { λ _. ⌜ Agreement ⌝ }
 {
     0
 }

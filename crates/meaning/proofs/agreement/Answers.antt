@@ -1,0 +1,5 @@
+use Rattle.meaning.proofs.Agree.{agreement}
+use Rattle.meaning.proofs.agreement.Needs as need
+
+pub returns : need.returns
+returns c = agreement
