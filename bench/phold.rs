@@ -8,7 +8,7 @@ use std::time::{Duration, Instant};
 
 // The memory, as the verified library declares it.
 
-#[derive(Clone, Copy, Default, PartialEq, Eq)]
+#[derive(Clone, Copy, Default)]
 #[repr(C)]
 struct Message {
     time: u64,
@@ -163,7 +163,11 @@ fn play(
             }
             3 => {
                 let (number, behind) = eval(rest, fuel, event, vars);
-                let line = Line { time: event.clock as u64, process: event.me, number };
+                let line = Line {
+                    time: event.clock as u64,
+                    process: event.me,
+                    number,
+                };
                 place(lines, tally.lines, line);
                 tally.lines = tally.lines.saturating_add(1);
                 code = behind;
@@ -209,7 +213,11 @@ fn measure(code: &[u32], event: &Event, seed: u32, vars: &[u32]) -> Tally {
     let mut copy = [0; WIDTH];
     let part = &mut copy[..vars.len()];
     part.copy_from_slice(vars);
-    let mut tally = Tally { seed, sends: 0, lines: 0 };
+    let mut tally = Tally {
+        seed,
+        sends: 0,
+        lines: 0,
+    };
     play(code, code.len(), event, part, &mut tally, &mut [], &mut []);
     tally
 }
@@ -225,13 +233,25 @@ fn handle<const COUNTING: bool>(
     sends: &mut [Message],
     lines: &mut [Line],
 ) -> Option<(usize, usize)> {
-    let event = Event { it: m.number, me: m.to, clock: m.time as u32, processes, sent: process.sent };
+    let event = Event {
+        it: m.number,
+        me: m.to,
+        clock: m.time as u32,
+        processes,
+        sent: process.sent,
+    };
     let (most_sends, most_lines) = (sends.len() as u64, lines.len() as u64);
-    let fits = |t: &Tally| t.sends <= most_sends && t.lines <= most_lines && t.sends <= u64::MAX - event.sent;
+    let fits = |t: &Tally| {
+        t.sends <= most_sends && t.lines <= most_lines && t.sends <= u64::MAX - event.sent
+    };
     if COUNTING && !fits(&measure(code, &event, process.seed, vars)) {
         return None;
     }
-    let mut tally = Tally { seed: process.seed, sends: 0, lines: 0 };
+    let mut tally = Tally {
+        seed: process.seed,
+        sends: 0,
+        lines: 0,
+    };
     play(code, code.len(), &event, vars, &mut tally, sends, lines);
     if !COUNTING && !fits(&tally) {
         return None;
@@ -353,8 +373,22 @@ fn code_of<'a>(code: &'a [u32], kinds: &[u32], kind: u32) -> &'a [u32] {
 }
 
 // A run of at most budget steps; how many were done.
-fn run<const COUNTING: bool, W: Waiting>(memory: &mut Memory, waiting: &mut W, end: u32, budget: u64) -> u64 {
-    let Memory { code, kinds, processes, vars, sends, lines, progress, .. } = memory;
+fn run<const COUNTING: bool, W: Waiting>(
+    memory: &mut Memory,
+    waiting: &mut W,
+    end: u32,
+    budget: u64,
+) -> u64 {
+    let Memory {
+        code,
+        kinds,
+        processes,
+        vars,
+        sends,
+        lines,
+        progress,
+        ..
+    } = memory;
     let count = processes.len() as u32;
     for steps in 0..budget {
         let Some(m) = waiting.first() else {
@@ -372,7 +406,15 @@ fn run<const COUNTING: bool, W: Waiting>(memory: &mut Memory, waiting: &mut W, e
         let places = waiting.places() + 1;
         let code = code_of(code, kinds, process.kind);
         let said = progress.said;
-        let done = handle::<COUNTING>(code, count, process, own, &m, &mut sends[..places], &mut lines[said..]);
+        let done = handle::<COUNTING>(
+            code,
+            count,
+            process,
+            own,
+            &m,
+            &mut sends[..places],
+            &mut lines[said..],
+        );
         let Some((sent, more)) = done else {
             return steps;
         };
@@ -401,6 +443,7 @@ struct Memory {
 
 // The start of PHOLD with so many processes and as many messages.
 fn start(population: u32) -> Memory {
+    #[rustfmt::skip]
     let code = vec![
         2, 0, 0, population, // a = draw population
         2, 1, 0, 100, // b = draw 100
@@ -408,7 +451,12 @@ fn start(population: u32) -> Memory {
         0,
     ];
     let processes = (0..population)
-        .map(|k| Process { kind: 0, width: 2, seed: next_seed(next_seed(k + 1)), sent: 0 })
+        .map(|k| Process {
+            kind: 0,
+            width: 2,
+            seed: next_seed(next_seed(k + 1)),
+            sent: 0,
+        })
         .collect();
     let mut row: Vec<Message> = (0..population)
         .map(|k| Message {
@@ -443,11 +491,36 @@ fn mixed(words: &[u64]) -> u64 {
 
 // A sum over all processes, variables and waiting messages, the latter in any order.
 fn checksum(memory: &Memory, waiting: &[Message], steps: u64) -> u64 {
-    let processes = memory.processes.iter().enumerate().map(|(k, p)| mixed(&[1, k as u64, p.seed as u64, p.sent]));
-    let vars = memory.vars.iter().enumerate().map(|(k, &x)| mixed(&[2, k as u64, x as u64]));
-    let waiting = waiting.iter().map(|m| mixed(&[3, m.time, m.to as u64, m.from as u64, m.count, m.number as u64]));
-    let rest = mixed(&[4, steps, memory.progress.waiting as u64, memory.progress.said as u64]);
-    processes.chain(vars).chain(waiting).fold(rest, u64::wrapping_add)
+    let processes = memory
+        .processes
+        .iter()
+        .enumerate()
+        .map(|(k, p)| mixed(&[1, k as u64, p.seed as u64, p.sent]));
+    let vars = memory
+        .vars
+        .iter()
+        .enumerate()
+        .map(|(k, &x)| mixed(&[2, k as u64, x as u64]));
+    let waiting = waiting.iter().map(|m| {
+        mixed(&[
+            3,
+            m.time,
+            m.to as u64,
+            m.from as u64,
+            m.count,
+            m.number as u64,
+        ])
+    });
+    let rest = mixed(&[
+        4,
+        steps,
+        memory.progress.waiting as u64,
+        memory.progress.said as u64,
+    ]);
+    processes
+        .chain(vars)
+        .chain(waiting)
+        .fold(rest, u64::wrapping_add)
 }
 
 // The contenders: each runs from the start that it is given, and says how long it took and what it ended in.
@@ -455,7 +528,16 @@ fn checksum(memory: &Memory, waiting: &[Message], steps: u64) -> u64 {
 type Contender = fn(Memory, u64) -> (Duration, u64);
 
 fn verified(mut memory: Memory, budget: u64) -> (Duration, u64) {
-    let Memory { code, kinds, processes, vars, row, sends, lines, progress } = &mut memory;
+    let Memory {
+        code,
+        kinds,
+        processes,
+        vars,
+        row,
+        sends,
+        lines,
+        progress,
+    } = &mut memory;
     let begun = Instant::now();
     // SAFETY: each pointer comes with the length of its own vector, and the layouts are those of the library.
     let steps = unsafe {
@@ -480,22 +562,37 @@ fn verified(mut memory: Memory, budget: u64) -> (Duration, u64) {
         )
     };
     let took = begun.elapsed();
-    (took, checksum(&memory, &memory.row[..memory.progress.waiting], steps))
+    (
+        took,
+        checksum(&memory, &memory.row[..memory.progress.waiting], steps),
+    )
 }
 
 fn with_row<const COUNTING: bool>(mut memory: Memory, budget: u64) -> (Duration, u64) {
     let mut places = std::mem::take(&mut memory.row);
     let begun = Instant::now();
-    let mut row = Row { row: &mut places, len: memory.progress.waiting };
+    let mut row = Row {
+        row: &mut places,
+        len: memory.progress.waiting,
+    };
     let steps = run::<COUNTING, _>(&mut memory, &mut row, END, budget);
     memory.progress.waiting = row.len;
     let took = begun.elapsed();
-    (took, checksum(&memory, &places[..memory.progress.waiting], steps))
+    (
+        took,
+        checksum(&memory, &places[..memory.progress.waiting], steps),
+    )
 }
 
 fn with_heap(mut memory: Memory, budget: u64) -> (Duration, u64) {
-    let waiting = memory.row[..memory.progress.waiting].iter().map(|m| Heaped(*m)).collect();
-    let mut heap = Heap { heap: waiting, most: memory.row.len() };
+    let waiting = memory.row[..memory.progress.waiting]
+        .iter()
+        .map(|m| Heaped(*m))
+        .collect();
+    let mut heap = Heap {
+        heap: waiting,
+        most: memory.row.len(),
+    };
     let begun = Instant::now();
     let steps = run::<false, _>(&mut memory, &mut heap, END, budget);
     memory.progress.waiting = heap.heap.len();
@@ -514,10 +611,13 @@ const CONTENDERS: [(&str, Contender); 4] = [
 // The messages put in during a run, in their order: one at each step.
 fn puts(mut memory: Memory, budget: u64) -> Vec<Message> {
     let mut places = std::mem::take(&mut memory.row);
-    let mut row = Row { row: &mut places, len: memory.progress.waiting };
+    let mut row = Row {
+        row: &mut places,
+        len: memory.progress.waiting,
+    };
     (0..budget)
         .map(|_| {
-            run::<false, _>(&mut memory, &mut row, END, 1);
+            assert_eq!(run::<false, _>(&mut memory, &mut row, END, 1), 1);
             memory.sends[0]
         })
         .collect()
@@ -526,7 +626,10 @@ fn puts(mut memory: Memory, budget: u64) -> Vec<Message> {
 // How long it takes to take the first out of the row and put the next one in, for each of these.
 fn replay(mut places: Vec<Message>, len: usize, puts: &[Message]) -> Duration {
     let begun = Instant::now();
-    let mut row = Row { row: &mut places, len };
+    let mut row = Row {
+        row: &mut places,
+        len,
+    };
     for m in puts {
         row.take();
         row.put(*m);
@@ -561,19 +664,27 @@ fn measured(population: u32, budget: u64) {
         print!(" {:.1} |", each(took));
     }
     let ratio = |k: usize| best[k].as_secs_f64() / best[0].as_secs_f64();
-    print!(" {:.2} | {:.2} | {:.2} |", ratio(1), ratio(2), ratio(3));
-    println!(" {:.1} | {:.0} % |", each(inserting), 100.0 * inserting.as_secs_f64() / best[0].as_secs_f64());
+    print!(" {:.2} | {:.2} | {:.3} |", ratio(1), ratio(2), ratio(3));
+    println!(
+        " {:.1} | {:.0} % |",
+        each(inserting),
+        100.0 * inserting.as_secs_f64() / best[0].as_secs_f64()
+    );
 }
 
 const SIZES: [(u32, u64); 3] = [(1_000, 2_000_000), (10_000, 200_000), (65_000, 50_000)];
 
 fn main() {
-    println!("ns for each message handled, the best of {RUNS} runs; speed: the time of the other over that of the verified run");
+    println!(
+        "ns for each message handled, the best of {RUNS} runs; speed: the time of the other over that of the verified run."
+    );
+    println!("insertion: the same puts in plain Rust, and their share of the verified run's time.");
+    println!();
     print!("| waiting | handled |");
     for (name, _) in CONTENDERS {
         print!(" {name} |");
     }
-    println!(" speed to same design | to no counting | to heap | insertion | of the verified time |");
+    println!(" speed to same design | to no counting pass | to heap | insertion | share |");
     println!("|{}", "--:|".repeat(CONTENDERS.len() + 7));
     for (population, budget) in SIZES {
         measured(population, budget);

@@ -108,3 +108,7 @@ module _ (vs : List ℕ) (s : Event) (n : ℕ) (ws tail : List ℕ) (some : n �
       finished (Two b) e v rest
       (cc (value-two vs (s .it) (s .me) (s .clock) b (expr-of (n - 1) tail .expr) (expr-of (n - 1) (expr-of (n - 1) tail .rest) .expr)))
       (cc)
+
+-- The same variables, lent once more.
+pub same-vars : {us vs : List ℕ} {e : Event} {n v : ℕ} {ws rest : List ℕ} → us ≡ drop 0 vs → Evaluated us e n ws v rest → Evaluated vs e n ws v rest
+same-vars {us} {vs} {e} {n} {v} {ws} {rest} p q = subst (λ zs. Evaluated zs e n ws v rest) p q

@@ -168,8 +168,10 @@ fn eval<'a>(code: &'a [u32], fuel: usize, event: Event, vars: &[u32]) -> (u32, &
         ExprOp::Me => (event.me, rest),
         ExprOp::Clock => (event.clock, rest),
         ExprOp::Two(op) => {
-            let (a, middle) = eval(rest, fuel - 1, event, vars);
-            let (b, behind) = eval(middle, fuel - 1, event, vars);
+            // lent anew: handing the parameter on makes the callee wait for it, a third of the time of an event
+            let own = skip(vars, 0);
+            let (a, middle) = eval(rest, fuel - 1, event, own);
+            let (b, behind) = eval(middle, fuel - 1, event, own);
             (apply(op, a, b), behind)
         }
         ExprOp::Nothing => (0, rest),

@@ -11,6 +11,7 @@ use lib.ListN.{length}
 use Rattle.std.specs.Orderings.{When}
 use Rattle.std.specs.declared.option.Option.the-variants.{Some, None}
 use Rattle.std.proofs.shelf.Tests.{and-parts, and-from, leb-true, le-leb}
+use Rattle.meaning.specs.declared.Message.{Message}
 use Rattle.meaning.specs.Model.{Model, State, step, steps}
 use Rattle.meaning.proofs.Runs.{steps-add}
 use Rattle.sequential.specs.declared.Report.{Report}
@@ -97,8 +98,8 @@ module _ (code kinds : List ℕ) (end sends : ℕ) (y z : Memory) (k : ℕ) (r :
       }
 
 -- A report by its number of steps alone.
-pub steps-only : (b : Bool) (code kinds : List ℕ) (end budget sends : ℕ) (y : Memory) (r : Report) (y′ : Memory) →
-    When b (Run-in code kinds end budget sends y r y′) (Not-run y r y′) →
-    When b ((o : Outcome) × Run-in code kinds end budget sends y (record { outcome = o; steps = r .steps }) y′) (Not-run y (record { outcome = Short; steps = r .steps }) y′)
-steps-only true code kinds end budget sends y r y′ h = (r .outcome, h)
-steps-only false code kinds end budget sends y r y′ h = record { refused = ap (λ q. record { outcome = Short; steps = q .steps }) (h .refused); same = h .same }
+pub steps-only : (b : Bool) (code kinds : List ℕ) (end budget sends : ℕ) (y : Memory) (S : List Message) (r : Report) (y′ : Memory) (S′ : List Message) →
+    When b (Run-in code kinds end budget sends y r y′) (Not-run y S r y′ S′) →
+    When b ((o : Outcome) × Run-in code kinds end budget sends y (record { outcome = o; steps = r .steps }) y′) (Not-run y S (record { outcome = Short; steps = r .steps }) y′ S′)
+steps-only true code kinds end budget sends y S r y′ S′ h = (r .outcome, h)
+steps-only false code kinds end budget sends y S r y′ S′ h = record { refused = ap (λ q. record { outcome = Short; steps = q .steps }) (h .refused); same = h .same; same-sends = h .same-sends }

@@ -53,7 +53,7 @@ started-field f h luck k (p ∷ ps) = ap₂ (λ a l. a ∷ l) (h luck k p) (star
 pub begun : (luck : ℕ) (outside : List Message) (ps ps′ : List Process) (row row′ : List Message) (len′ : ℕ) (T E : Type 0) (r : Result T E) →
     ps′ ≡ started luck 0 ps → length outside ≤ length row → length row′ ≡ length row →
     Cases r (λ _. Inserted-all outside row 0 row′ len′) (λ _. Refused (length outside) row 0 row′ len′) →
-    Begun luck outside ps ps′ row′ (record { waiting = len′; said = 0 })
+    Begun luck outside ps row ps′ row′ (record { waiting = len′; said = 0 })
 unfolding start
 begun luck outside ps ps′ row row′ len′ T E r e l lr h =
     let i = put-in r h in
@@ -62,6 +62,7 @@ begun luck outside ps ps′ row row′ len′ T E r e l lr h =
       kinds-are = ap (λ q. map (λ p. p .kind) q) e ∙ started-field (λ p. p .kind) (λ a b p. refl) luck 0 ps;
       widths-are = ap (λ q. map (λ p. p .width) q) e ∙ started-field (λ p. p .width) (λ a b p. refl) luck 0 ps;
       in-row = omega (arith, i .as-many-more, i .room);
+      behind = i .behind;
       stands = λ code kinds vs lines.
           λ j. record { processes = (ap (λ q. actors q vs) e ∙ started-actors luck 0 ps vs) j; pending = i .in-place j; said = [] };
     }

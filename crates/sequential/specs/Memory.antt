@@ -77,6 +77,10 @@ pub record Memory : Type 0 where
   pub lines : List Line
   pub progress : Progress
 
+-- What is lent, slice by slice.
+abbrev pub memory : List Process → List ℕ → List Message → List Line → Progress → Memory
+memory ps vs row lines g = record { processes = ps; vars = vs; row = row; lines = lines; progress = g }
+
 -- The state that lent memory stands for.
 abbrev pub state-of : Memory → State
 state-of y =
@@ -148,10 +152,11 @@ pub record Run-in (code kinds : List ℕ) (end budget sends : ℕ) (y : Memory) 
   pub widths-are : map (λ p. p .width) (y′ .processes) ≡ map (λ p. p .width) (y .processes)
   pub shaped-still : shaped y′ sends ≡ true
 
--- And if it isn't, nothing has changed.
-pub record Not-run (y : Memory) (r : Report) (y′ : Memory) : Type 0 where
+-- And if it isn't, nothing has changed, the places for what one message sends included.
+pub record Not-run (y : Memory) (sends : List Message) (r : Report) (y′ : Memory) (sends′ : List Message) : Type 0 where
   pub refused : r ≡ record { outcome = Short; steps = 0 }
   pub same : y′ ≡ y
+  pub same-sends : sends′ ≡ sends
 
 -- Processes at the start, from number k on: a seed from the run's seed and the process's number, and nothing sent.
 unfoldable pub started : ℕ → ℕ → List Process → List Process
@@ -165,11 +170,12 @@ numbers-of [] vs = []
 numbers-of (p ∷ ps) vs = take (min (p .width) 64) vs ∷ numbers-of ps (drop 64 vs)
 
 -- Lent memory stands for the start of the model with these variables, whatever the code, the kinds and the places for lines are.
-pub record Begun (luck : ℕ) (outside : List Message) (ps ps′ : List Process) (row′ : List Message) (g′ : Progress) : Type 0 where
+pub record Begun (luck : ℕ) (outside : List Message) (ps : List Process) (row : List Message) (ps′ : List Process) (row′ : List Message) (g′ : Progress) : Type 0 where
   pub processes-are : ps′ ≡ started luck 0 ps
   pub kinds-are : map (λ p. p .kind) ps′ ≡ map (λ p. p .kind) ps
   pub widths-are : map (λ p. p .width) ps′ ≡ map (λ p. p .width) ps
   pub in-row : g′ .waiting ≤ length row′
+  pub behind : drop (g′ .waiting) row′ ≡ drop (g′ .waiting) row
   pub stands : (code kinds vs : List ℕ) (lines : List Line) →
       state-of (record { processes = ps′; vars = vs; row = row′; lines = lines; progress = g′ })
       ≡ start (model-of code kinds ps (numbers-of ps vs)) luck outside

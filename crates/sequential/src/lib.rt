@@ -3,7 +3,7 @@ ghost use lib.ListN.{length};
 ghost use mathlib.Core.Path.{_≡_};
 ghost use Prim.Native.Nat.{ℕ, _*_, _≤_, _<_, min};
 ghost use Rattle.body.specs.Play.{answer};
-ghost use Rattle.sequential.specs.Memory.{Row-in-order, Begun, Unbegun, unready, started, code-of, done-in, Did, Untouched, Memory, Shaped, Stepped, Run-in, Not-run, model-of, state-of, shaped, stops, outcome-of};
+ghost use Rattle.sequential.specs.Memory.{Row-in-order, Begun, Unbegun, unready, started, code-of, done-in, Did, Untouched, Memory, memory, Shaped, Stepped, Run-in, Not-run, model-of, state-of, shaped, stops, outcome-of};
 ghost use Rattle.std.specs.Options.{Cases as BySome};
 ghost use Rattle.std.specs.Orderings.{When};
 ghost use Rattle.std.specs.Results.{Cases as ByOk, errPart};
@@ -91,7 +91,7 @@ pub fn begin(
 ) -> Result<(), Unready>
     ensures answers { λ r. ⌜ errPart r ≡ unready luck (length (now (processes .entry))) (length (now (outside .entry))) (length (now (row .entry))) ⌝ }
     ensures holds { λ r. ⌜ ByOk r
-        (λ _. Begun luck (now (outside .entry)) (now (processes .entry)) (now (processes .exit)) (now (row .exit)) (now (progress .exit)))
+        (λ _. Begun luck (now (outside .entry)) (now (processes .entry)) (now (row .entry)) (now (processes .exit)) (now (row .exit)) (now (progress .exit)))
         (λ _. Unbegun (now (processes .entry)) (now (row .entry)) (now (progress .entry)) (now (processes .exit)) (now (row .exit)) (now (progress .exit))) ⌝ }
 {
     if luck >= SEEDS {
@@ -206,11 +206,11 @@ fn step(
     progress: &mut Progress,
     end: u32,
 ) -> Option<Outcome>
-    requires { ⌜ Shaped (record { processes = now processes; vars = now vars; row = now row; lines = now lines; progress = now progress }) (length (now sends)) ⌝ }
-    ensures answers { λ r. ⌜ ((ns : List (List ℕ)) → r ≡ stops (model-of (now (code .entry)) (now (kinds .entry)) (now (processes .entry)) ns) end (length (now (row .entry))) (length (now (lines .entry))) (state-of (record { processes = now (processes .entry); vars = now (vars .entry); row = now (row .entry); lines = now (lines .entry); progress = now (progress .entry) }))) ⌝ }
+    requires { ⌜ Shaped (memory (now processes) (now vars) (now row) (now lines) (now progress)) (length (now sends)) ⌝ }
+    ensures answers { λ r. ⌜ ((ns : List (List ℕ)) → r ≡ stops (model-of (now (code .entry)) (now (kinds .entry)) (now (processes .entry)) ns) end (length (now (row .entry))) (length (now (lines .entry))) (state-of (memory (now (processes .entry)) (now (vars .entry)) (now (row .entry)) (now (lines .entry)) (now (progress .entry))))) ⌝ }
     ensures holds { λ r. ⌜ BySome r
-        (Stepped (now (code .entry)) (now (kinds .entry)) end (length (now (sends .entry))) (record { processes = now (processes .entry); vars = now (vars .entry); row = now (row .entry); lines = now (lines .entry); progress = now (progress .entry) }) (record { processes = now (processes .exit); vars = now (vars .exit); row = now (row .exit); lines = now (lines .exit); progress = now (progress .exit) }))
-        (λ _. _≡_ {A = Memory} (record { processes = now (processes .exit); vars = now (vars .exit); row = now (row .exit); lines = now (lines .exit); progress = now (progress .exit) }) (record { processes = now (processes .entry); vars = now (vars .entry); row = now (row .entry); lines = now (lines .entry); progress = now (progress .entry) })) ⌝ }
+        (Stepped (now (code .entry)) (now (kinds .entry)) end (length (now (sends .entry))) (memory (now (processes .entry)) (now (vars .entry)) (now (row .entry)) (now (lines .entry)) (now (progress .entry))) (memory (now (processes .exit)) (now (vars .exit)) (now (row .exit)) (now (lines .exit)) (now (progress .exit))))
+        (λ _. _≡_ {A = Memory} (memory (now (processes .exit)) (now (vars .exit)) (now (row .exit)) (now (lines .exit)) (now (progress .exit))) (memory (now (processes .entry)) (now (vars .entry)) (now (row .entry)) (now (lines .entry)) (now (progress .entry)))) ⌝ }
 {
     let mut waiting = progress.waiting;
     let Some(m) = take_first(row, &mut waiting) else {
@@ -252,7 +252,7 @@ fn is_shaped(
     lines: &[Line],
     progress: Progress,
 ) -> bool
-    ensures { λ r. ⌜ r ≡ shaped (record { processes = now (processes .entry); vars = now (vars .entry); row = now (row .entry); lines = now (lines .entry); progress = progress }) (length (now (sends .entry))) ⌝ }
+    ensures { λ r. ⌜ r ≡ shaped (memory (now (processes .entry)) (now (vars .entry)) (now (row .entry)) (now (lines .entry)) progress) (length (now (sends .entry))) ⌝ }
 {
     let count = processes.len();
     count <= PROCESSES
@@ -262,7 +262,8 @@ fn is_shaped(
         && progress.said <= lines.len()
 }
 
-// A run of at most budget steps: it stops where nothing is left before the end or the next message cannot be handled.
+// A run of at most budget steps: it stops where nothing is left before the end or the next message cannot be handled. What sends holds
+// after a run that was not refused is not promised, nor what stands in places that are not in use.
 pub fn run(
     code: &[u32],
     kinds: &[u32],
@@ -275,9 +276,9 @@ pub fn run(
     end: u32,
     budget: u64,
 ) -> Report
-    ensures { λ r. ⌜ When (shaped (record { processes = now (processes .entry); vars = now (vars .entry); row = now (row .entry); lines = now (lines .entry); progress = now (progress .entry) }) (length (now (sends .entry))))
-        (Run-in (now (code .entry)) (now (kinds .entry)) end budget (length (now (sends .entry))) (record { processes = now (processes .entry); vars = now (vars .entry); row = now (row .entry); lines = now (lines .entry); progress = now (progress .entry) }) r (record { processes = now (processes .exit); vars = now (vars .exit); row = now (row .exit); lines = now (lines .exit); progress = now (progress .exit) }))
-        (Not-run (record { processes = now (processes .entry); vars = now (vars .entry); row = now (row .entry); lines = now (lines .entry); progress = now (progress .entry) }) r (record { processes = now (processes .exit); vars = now (vars .exit); row = now (row .exit); lines = now (lines .exit); progress = now (progress .exit) })) ⌝ }
+    ensures { λ r. ⌜ When (shaped (memory (now (processes .entry)) (now (vars .entry)) (now (row .entry)) (now (lines .entry)) (now (progress .entry))) (length (now (sends .entry))))
+        (Run-in (now (code .entry)) (now (kinds .entry)) end budget (length (now (sends .entry))) (memory (now (processes .entry)) (now (vars .entry)) (now (row .entry)) (now (lines .entry)) (now (progress .entry))) r (memory (now (processes .exit)) (now (vars .exit)) (now (row .exit)) (now (lines .exit)) (now (progress .exit))))
+        (Not-run (memory (now (processes .entry)) (now (vars .entry)) (now (row .entry)) (now (lines .entry)) (now (progress .entry))) (now (sends .entry)) r (memory (now (processes .exit)) (now (vars .exit)) (now (row .exit)) (now (lines .exit)) (now (progress .exit))) (now (sends .exit))) ⌝ }
 {
     if !is_shaped(processes, vars, row, sends, lines, *progress) {
         return Report {
@@ -322,9 +323,9 @@ pub extern "C" fn sequential_run(
     end: u32,
     budget: u64,
 ) -> u64
-    ensures { λ r. ⌜ When (shaped (record { processes = now (processes .entry); vars = now (vars .entry); row = now (row .entry); lines = now (lines .entry); progress = now (progress .entry) }) (length (now (sends .entry))))
-        ((o : Outcome) × Run-in (now (code .entry)) (now (kinds .entry)) end budget (length (now (sends .entry))) (record { processes = now (processes .entry); vars = now (vars .entry); row = now (row .entry); lines = now (lines .entry); progress = now (progress .entry) }) (record { outcome = o; steps = r }) (record { processes = now (processes .exit); vars = now (vars .exit); row = now (row .exit); lines = now (lines .exit); progress = now (progress .exit) }))
-        (Not-run (record { processes = now (processes .entry); vars = now (vars .entry); row = now (row .entry); lines = now (lines .entry); progress = now (progress .entry) }) (record { outcome = Outcome.Short; steps = r }) (record { processes = now (processes .exit); vars = now (vars .exit); row = now (row .exit); lines = now (lines .exit); progress = now (progress .exit) })) ⌝ }
+    ensures { λ r. ⌜ When (shaped (memory (now (processes .entry)) (now (vars .entry)) (now (row .entry)) (now (lines .entry)) (now (progress .entry))) (length (now (sends .entry))))
+        ((o : Outcome) × Run-in (now (code .entry)) (now (kinds .entry)) end budget (length (now (sends .entry))) (memory (now (processes .entry)) (now (vars .entry)) (now (row .entry)) (now (lines .entry)) (now (progress .entry))) (record { outcome = o; steps = r }) (memory (now (processes .exit)) (now (vars .exit)) (now (row .exit)) (now (lines .exit)) (now (progress .exit))))
+        (Not-run (memory (now (processes .entry)) (now (vars .entry)) (now (row .entry)) (now (lines .entry)) (now (progress .entry))) (now (sends .entry)) (record { outcome = Outcome.Short; steps = r }) (memory (now (processes .exit)) (now (vars .exit)) (now (row .exit)) (now (lines .exit)) (now (progress .exit))) (now (sends .exit))) ⌝ }
 {
     run(
         code,

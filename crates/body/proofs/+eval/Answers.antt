@@ -1,6 +1,6 @@
 use mathlib.Core.Logic.{inl, inr}
 use native.Mathlib.Omega.{arith}
-use Rattle.body.proofs.Words.{none-left, at-fixed, at-var, at-it, at-me, at-clock, at-nothing, at-two}
+use Rattle.body.proofs.Words.{none-left, at-fixed, at-var, at-it, at-me, at-clock, at-nothing, at-two, same-vars}
 use Rattle.body.proofs.+eval.Needs as need
 use Rattle.body.proofs.+eval.Needs.{then-fuel-eq0·by·then-fuel-eq0, then-fuel-eq0·by·else-fuel-eq0·then-is-empty}
 
@@ -42,4 +42,4 @@ returns-in-Nothing t c =
 pub returns-in-Two : need.returns-in-Two
 returns-in-Two t c =
     at-two (c .args .vars .now) (c .args .event) (c .args .fuel) (c .args .code .now) (c .skip-rest .result .now) (c .if-fuel-eq0 .left) (c .if-is-empty .ensures tt) (c .skip-rest .ensures)
-    (c .in-Two .op) (c .in-Two .ensures tt) (c .eval-a .result .0) (c .eval-b .result .0) (c .apply .result) (c .eval-a .result .1 .now) (c .eval-b .result .1 .now) (c .eval-a .ensures) (c .eval-b .ensures) (c .apply .ensures)
+    (c .in-Two .op) (c .in-Two .ensures tt) (c .eval-a .result .0) (c .eval-b .result .0) (c .apply .result) (c .eval-a .result .1 .now) (c .eval-b .result .1 .now) (same-vars (c .skip-own .ensures) (c .eval-a .ensures)) (same-vars (c .skip-own .ensures) (c .eval-b .ensures)) (c .apply .ensures)
