@@ -2,14 +2,14 @@
 use mathlib.Core.Path.{_≡_, refl, sym, ap, subst, _∙_}
 use mathlib.Core.Bool.{Bool, true, false, _&&_, not}
 use mathlib.Core.List.{List, [], _∷_, _++_, append-assoc}
-use Prim.Native.Nat.{ℕ, zero, suc, _<_}
+use Prim.Native.Nat.{ℕ, zero, suc, _<_, _≤_}
 use native.Mathlib.Omega.{arith}
 use lib.Chars.{codes}
-use lib.Dec.{eqb}
+use lib.Dec.{eqb, leb}
 use lib.ListN.{length, length-append}
-use Rattle.std.proofs.shelf.Tests.{both-ways, and-parts, cond-true, cond-false, not-true}
+use Rattle.std.proofs.shelf.Tests.{both-ways, and-parts, cond-true, cond-false, not-true, leb-true}
 use Rattle.grammar.specs.Syntax.{is-letter, is-digit, all, same, among, reserved, is-word, is-name, is-operand, is-number, Sign, plus, minus, times, over, remains, less, equal, sign-byte, Term, number, word, two, Lines, none, assign, draw, say, send, when, choose, again, Kind, Thing, Note, Text, show-term, show-lines, show-row, show-kinds, show-things, show-notes, show, spelled-term, spelled-lines, every, spelled-kind, spelled-thing, spelled-note, Is-text}
-use Rattle.grammar.specs.Parse.{Got, got, and-then, expect, read-name, read-number, read-sign, read-plain, read-term, read-expr, read-last, Close, by-end, by-else, Block, before-block, read-assign, read-by, read-lines, read-row, read-kind, read-thing, read-note, read-notes, read-things, read-kinds, parse}
+use Rattle.grammar.specs.Parse.{Got, got, and-then, expect, read-name, read-number, read-sign, read-plain, read-term, read-expr, read-last, Close, by-end, by-else, Block, before-block, read-assign, read-by, read-lines, read-next, read-row, read-upto, read-kind, read-thing, read-note, read-notes, read-things, read-kinds, parse}
 use Rattle.grammar.proofs.Words.{Ends, letter-in, digit-in, digit-no-letter, word-no-paren, word-full, checked-full, name-full, number-full, operand-no-draw, not-at}
 
 -- What comes behind something that was read.
@@ -277,19 +277,32 @@ row-ends [] k = refl
 row-ends (w ∷ ws) k = refl
 
 -- A row of what is read one by one.
-pub row-full : (one : List ℕ → Got (List ℕ)) (ok : List ℕ → Bool) → ((w k : List ℕ) → ok w ≡ true → Ends k → one (w ++ k) ≡ got w k) →
-    (ws : List (List ℕ)) (n : ℕ) (k : List ℕ) → every ok ws ≡ true → length (show-row ws ++ (10 ∷ k)) < n →
-    read-row one n (show-row ws ++ (10 ∷ k)) ≡ got ws k
-unfolding read-row show-row every
-row-full one ok f ws zero k h l = absurd (omega arith)
-row-full one ok f [] (suc n) k h l = refl
-row-full one ok f (w ∷ ws) (suc n) k h l =
-    (let p = and-parts (ok w) (every ok ws) h in
-    let a = append-assoc w (show-row ws) (10 ∷ k) in
-    let i = length-append w (show-row ws ++ (10 ∷ k)) in
-    ap (λ z. and-then (one z) (λ w c. and-then (read-row one n c) (λ ws d. got (w ∷ ws) d))) a
-    ∙ read-on _ (f w (show-row ws ++ (10 ∷ k)) (p .0) (row-ends ws k))
-    ∙ read-on _ (row-full one ok f ws n k (p .1) (omega (arith, ap length a))))
+module _ (one : List ℕ → Got (List ℕ)) (ok : List ℕ → Bool) (f : (w k : List ℕ) → ok w ≡ true → Ends k → one (w ++ k) ≡ got w k) where
+  next-full : (go : List ℕ → Got (List (List ℕ))) (w : List ℕ) (ws : List (List ℕ)) (k : List ℕ) → ok w ≡ true →
+      go (show-row ws ++ (10 ∷ k)) ≡ got ws k → read-next one go (show-row (w ∷ ws) ++ (10 ∷ k)) ≡ got (w ∷ ws) k
+  unfolding show-row
+  next-full go w ws k o h =
+      ap (λ z. and-then (one z) (λ w c. and-then (go c) (λ ws d. got (w ∷ ws) d))) (append-assoc w (show-row ws) (10 ∷ k))
+      ∙ read-on _ (f w (show-row ws ++ (10 ∷ k)) o (row-ends ws k)) ∙ read-on _ h
+
+  row-full : (ws : List (List ℕ)) (n : ℕ) (k : List ℕ) → every ok ws ≡ true → length (show-row ws ++ (10 ∷ k)) < n →
+      read-row one n (show-row ws ++ (10 ∷ k)) ≡ got ws k
+  unfolding read-row show-row every
+  row-full ws zero k h l = absurd (omega arith)
+  row-full [] (suc n) k h l = refl
+  row-full (w ∷ ws) (suc n) k h l =
+      (let p = and-parts (ok w) (every ok ws) h in
+      let a = append-assoc w (show-row ws) (10 ∷ k) in
+      let i = length-append w (show-row ws ++ (10 ∷ k)) in
+      next-full (read-row one n) w ws k (p .0) (row-full ws n k (p .1) (omega (arith, ap length a))))
+
+  upto-full : (ws : List (List ℕ)) (n : ℕ) (k : List ℕ) → every ok ws ≡ true → length ws ≤ n → read-upto one n (show-row ws ++ (10 ∷ k)) ≡ got ws k
+  unfolding read-upto show-row every expect
+  upto-full [] zero k h l = refl
+  upto-full [] (suc n) k h l = refl
+  upto-full (w ∷ ws) zero k h l = absurd (omega arith)
+  upto-full (w ∷ ws) (suc n) k h l =
+      (let p = and-parts (ok w) (every ok ws) h in next-full (read-upto one n) w ws k (p .0) (upto-full ws n k (p .1) (omega arith)))
 
 note-full : (x : Note) (k : List ℕ) → spelled-note x ≡ true →
     read-note (x .time ++ (32 ∷ (x .to ++ (32 ∷ (x .number ++ (10 ∷ k)))))) ≡ got x k
@@ -340,13 +353,14 @@ things-full (x ∷ ts) ns (suc n) h g l =
 kind-full : (x : Kind) (k : List ℕ) → spelled-kind x ≡ true →
     read-kind (x .name ++ (show-row (x .numbers) ++ (10 ∷ (show-lines (x .lines) ++ (codes "end" ++ (10 ∷ k)))))) ≡ got x k
 kind-full x k h =
-    (let p = and-parts (is-name (x .name)) (every is-name (x .numbers) && spelled-lines (x .lines)) h in
-    let q = and-parts (every is-name (x .numbers)) (spelled-lines (x .lines)) (p .1) in
+    (let p = and-parts (is-name (x .name)) (every is-name (x .numbers) && (leb (length (x .numbers)) 64 && spelled-lines (x .lines))) h in
+    let q = and-parts (every is-name (x .numbers)) (leb (length (x .numbers)) 64 && spelled-lines (x .lines)) (p .1) in
+    let t = and-parts (leb (length (x .numbers)) 64) (spelled-lines (x .lines)) (q .1) in
     let s = show-lines (x .lines) ++ (codes "end" ++ (10 ∷ k)) in
     let r = show-row (x .numbers) ++ (10 ∷ s) in
     read-on _ (name-full (x .name) r (p .0) (row-ends (x .numbers) s))
-    ∙ read-on _ (row-full read-name is-name name-full (x .numbers) (suc (length r)) s (q .0) (omega arith))
-    ∙ read-on _ (lines-full (x .lines) (q .1) (suc (length s)) false by-end k refl (omega arith)))
+    ∙ read-on _ (upto-full read-name is-name name-full (x .numbers) 64 s (q .0) (leb-true (length (x .numbers)) 64 (t .0)))
+    ∙ read-on _ (lines-full (x .lines) (t .1) (suc (length s)) false by-end k refl (omega arith)))
 
 pub kinds-full : (ks : List Kind) (ts : List Thing) (ns : List Note) (n : ℕ) → every spelled-kind ks ≡ true → every spelled-thing ts ≡ true →
     every spelled-note ns ≡ true → length (show-kinds ks ++ (show-things ts ++ show-notes ns)) < n →

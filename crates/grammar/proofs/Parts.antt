@@ -5,11 +5,11 @@ use mathlib.Core.List.{List, [], _∷_, _++_, append-assoc}
 use Prim.Native.Nat.{ℕ, zero, suc, _+_, _<_}
 use native.Mathlib.Omega.{arith}
 use lib.Chars.{codes}
-use lib.Dec.{eqb}
+use lib.Dec.{eqb, leb}
 use lib.ListN.{length}
-use Rattle.std.proofs.shelf.Tests.{and-parts, and-from, eqb-true, cond-true, cond-false, cond-both}
+use Rattle.std.proofs.shelf.Tests.{and-parts, and-from, leb-true, le-leb, eqb-true, cond-true, cond-false, cond-both}
 use Rattle.grammar.specs.Syntax.{is-name, is-number, newline, Kind, Thing, Note, Text, show-lines, show-row, show-kinds, show-things, show-notes, show, every, spelled-kind, spelled-thing, spelled-note, spelled}
-use Rattle.grammar.specs.Parse.{Got, got, bad, and-then, expect, read-name, read-number, read-row, read-kind, read-thing, read-note, read-notes, read-things, read-kinds}
+use Rattle.grammar.specs.Parse.{Got, got, bad, and-then, expect, read-name, read-number, read-next, read-row, read-upto, read-kind, read-thing, read-note, read-notes, read-things, read-kinds}
 use Rattle.grammar.proofs.Reading.{Reads, Reading, Goes-on, done, at-end, at-first, eats, sees, behind, shift, unshift, nothing-left, weaker, by-length, then, and-so}
 use Rattle.grammar.proofs.Leaves.{bytes, passes, expects, names, numbers}
 use Rattle.grammar.proofs.Trees.{lines-reads, by-the-end}
@@ -19,33 +19,54 @@ show-line ws = show-row ws ++ newline
 
 -- A row of what is read one by one.
 module _ (one : List ℕ → Got (List ℕ)) (ok : List ℕ → Bool) (reads : (n : ℕ) → Reads (λ m bs. one bs) bytes (passes ok) [] 0 n) where
-  row-on : Goes-on show-line (passes (every ok)) []
-  unfolding show-row every
-  row-on = record { more = newline; value = []; shows = refl; fine = refl }
+  row-on : (q : List (List ℕ) → Bool) → q [] ≡ true → Goes-on show-line (passes q) []
+  unfolding show-row
+  row-on q h = record { more = newline; value = []; shows = refl; fine = h }
 
-  more-row : (n : ℕ) → Reads (read-row one) show-line (passes (every ok)) [] 0 n →
-      Reads (λ m bs. and-then (one bs) (λ w c. and-then (read-row one m c) (λ ws d. got (w ∷ ws) d))) show-line (passes (every ok)) (32 ∷ []) 0 n
-  unfolding show-row every
-  more-row n r = and-so (reads n) (λ w o. and-so r (λ ws q. done (w ∷ ws) (simp append-assoc) (and-from (ok w) _ o q)))
+  -- What go reads passes p, and with one more before it q.
+  module _
+      (go : ℕ → List ℕ → Got (List (List ℕ))) (p q : List (List ℕ) → Bool) (none : q [] ≡ true)
+      (more : (w : List ℕ) (ws : List (List ℕ)) → ok w ≡ true → p ws ≡ true → q (w ∷ ws) ≡ true) (n : ℕ) (r : Reads go show-line (passes p) [] 0 n) where
+    one-more : Reads (λ m bs. and-then (one bs) (λ w c. and-then (go m c) (λ ws d. got (w ∷ ws) d))) show-line (passes q) (32 ∷ []) 0 n
+    unfolding show-row
+    one-more = and-so (reads n) (λ w o. and-so r (λ ws h. done (w ∷ ws) (simp append-assoc) (more w ws o h)))
 
-  row-step : (n : ℕ) → Reads (read-row one) show-line (passes (every ok)) [] 0 n → (bs : List ℕ) → length bs < n + 1 →
-      Reading (λ m. read-row one (suc m)) show-line (passes (every ok)) [] 1 bs (read-row one (suc n) bs)
-  unfolding read-row show-row every
-  row-step n r [] l = at-end (bad []) refl row-on
-  row-step n r (b ∷ bs) l =
-      cond-both (eqb b 10) _ _ P
-      (λ t. eats {f = 0} b bs (got [] bs) (λ m k. cond-true (eqb b 10) _ _ t) (omega arith) (done {n = n} [] (ap (λ x. x ∷ []) (eqb-true b 10 t)) refl .reading bs (omega arith)))
-      (λ f. cond-both (eqb b 32) _ _ P
-      (λ t. eats {f = 0} b bs _ (λ m k. cond-false (eqb b 10) _ _ f ∙ cond-true (eqb b 32) _ _ t) (omega arith)
-      (behind (ap (λ x. x ∷ []) (eqb-true b 32 t)) (more-row n r) .reading bs (omega arith)))
-      (λ g. at-first b bs (bad (b ∷ bs)) refl (λ m k. cond-false (eqb b 10) _ _ f ∙ cond-false (eqb b 32) _ _ g) row-on))
-    where
-      P : Got (List (List ℕ)) → Type 0
-      P = Reading (λ m. read-row one (suc m)) show-line (passes (every ok)) [] 1 (b ∷ bs)
+    next-reading : (bs : List ℕ) → length bs < n + 1 → Reading (λ m. read-next one (go m)) show-line (passes q) [] 1 bs (read-next one (go n) bs)
+    unfolding show-row
+    next-reading [] l = at-end (bad []) refl (row-on q none)
+    next-reading (b ∷ bs) l =
+        cond-both (eqb b 10) _ _ P
+        (λ t. eats {f = 0} b bs (got [] bs) (λ m k. cond-true (eqb b 10) _ _ t) (omega arith)
+        (done {n = n} [] (ap (λ x. x ∷ []) (eqb-true b 10 t)) none .reading bs (omega arith)))
+        (λ f. cond-both (eqb b 32) _ _ P
+        (λ t. eats {f = 0} b bs _ (λ m k. cond-false (eqb b 10) _ _ f ∙ cond-true (eqb b 32) _ _ t) (omega arith)
+        (behind (ap (λ x. x ∷ []) (eqb-true b 32 t)) one-more .reading bs (omega arith)))
+        (λ g. at-first b bs (bad (b ∷ bs)) refl (λ m k. cond-false (eqb b 10) _ _ f ∙ cond-false (eqb b 32) _ _ g) (row-on q none)))
+      where
+        P : Got (List (List ℕ)) → Type 0
+        P = Reading (λ m. read-next one (go m)) show-line (passes q) [] 1 (b ∷ bs)
+
+    next-reads : Reads (λ m. read-next one (go m)) show-line (passes q) [] 1 n
+    next-reads = record { goes-on = row-on q none; reading = next-reading }
 
   row-reads : (n : ℕ) → Reads (read-row one) show-line (passes (every ok)) [] 0 n
-  row-reads zero = nothing-left row-on
-  row-reads (suc n) = shift (record { goes-on = row-on; reading = row-step n (row-reads n) })
+  unfolding read-row every
+  row-reads zero = nothing-left (row-on (every ok) refl)
+  row-reads (suc n) = shift (next-reads (read-row one) (every ok) (every ok) refl (λ w ws o h. and-from (ok w) _ o h) n (row-reads n))
+
+  -- At most i of them.
+  abbrev upto : ℕ → List (List ℕ) → Bool
+  upto i ws = every ok ws && leb (length ws) i
+
+  upto-reads : (i n : ℕ) → Reads (λ m bs. read-upto one i bs) show-line (passes (upto i)) [] 0 n
+  unfolding read-upto show-row every
+  upto-reads i zero = nothing-left (row-on (upto i) (le-leb 0 i (omega arith)))
+  upto-reads zero (suc n) = and-so (expects newline) (λ _ _. done [] refl refl)
+  upto-reads (suc i) (suc n) =
+      shift (next-reads (λ m. read-upto one i) (upto i) (upto (suc i)) (le-leb 0 (suc i) (omega arith))
+      (λ w ws o h. (let p = and-parts (every ok ws) _ h in
+      and-from (ok w && every ok ws) _ (and-from (ok w) _ o (p .0)) (le-leb (suc (length ws)) (suc i) (omega (arith, leb-true (length ws) i (p .1))))))
+      n (upto-reads i n))
 
 -- A kind behind its first word, and a thing and a message behind theirs.
 show-kind : Kind → List ℕ
@@ -60,9 +81,9 @@ show-note n = n .time ++ (codes " " ++ (n .to ++ (codes " " ++ (n .number ++ new
 kind-reads : {e n : ℕ} → Reads (λ m bs. read-kind bs) show-kind (passes spelled-kind) [] e n
 unfolding show-kind
 kind-reads =
-    and-so names (λ w o. and-so (by-length (row-reads read-name is-name (λ n. names))) (λ ws q. and-so (by-length (λ n. lines-reads n false)) (λ b h.
+    and-so names (λ w o. and-so (by-length (upto-reads read-name is-name (λ n. names) 64)) (λ ws q. and-so (by-length (λ n. lines-reads n false)) (λ b h.
     done (record { name = w; numbers = ws; lines = b .lines }) (ap (λ z. (w ++ show-line ws) ++ z) (by-the-end b h) ∙ simp append-assoc)
-    (and-from (is-name w) _ o (and-from (every is-name ws) _ q (h .spells))))))
+    (let p = and-parts (every is-name ws) _ q in and-from (is-name w) _ o (and-from (every is-name ws) _ (p .0) (and-from (leb (length ws) 64) _ (p .1) (h .spells)))))))
 
 thing-reads : {e n : ℕ} → Reads (λ m bs. read-thing bs) show-thing (passes spelled-thing) [] e n
 unfolding show-thing

@@ -145,18 +145,26 @@ unfoldable pub read-lines : ℕ → Bool → List ℕ → Got Block
 read-lines zero els bs = bad bs
 read-lines (suc n) els bs = and-then (read-word bs) (read-by (read-lines n) els)
 
+-- The end of the line; or a space and one more, and those behind it, which go reads.
+abbrev pub read-next : (List ℕ → Got (List ℕ)) → (List ℕ → Got (List (List ℕ))) → List ℕ → Got (List (List ℕ))
+read-next one go [] = bad []
+read-next one go (b ∷ bs) =
+    cond (eqb b 10) (got [] bs) (cond (eqb b 32) (and-then (one bs) (λ w c. and-then (go c) (λ ws d. got (w ∷ ws) d))) (bad (b ∷ bs)))
+
 -- Each after a space, up to the end of the line; at most n.
 unfoldable pub read-row : (List ℕ → Got (List ℕ)) → ℕ → List ℕ → Got (List (List ℕ))
 read-row one zero bs = bad bs
-read-row one (suc n) [] = bad []
-read-row one (suc n) (b ∷ bs) =
-    cond (eqb b 10) (got [] bs)
-    (cond (eqb b 32) (and-then (one bs) (λ w c. and-then (read-row one n c) (λ ws d. got (w ∷ ws) d))) (bad (b ∷ bs)))
+read-row one (suc n) bs = read-next one (read-row one n) bs
 
--- A kind behind its first word.
+-- Each after a space, up to the end of the line; behind n of them only the end of the line.
+unfoldable pub read-upto : (List ℕ → Got (List ℕ)) → ℕ → List ℕ → Got (List (List ℕ))
+read-upto one zero bs = and-then (expect newline bs) (λ _ c. got [] c)
+read-upto one (suc n) bs = read-next one (read-upto one n) bs
+
+-- A kind behind its first word, with at most 64 numbers.
 abbrev pub read-kind : List ℕ → Got Kind
 read-kind bs =
-    and-then (read-name bs) (λ w c. and-then (read-row read-name (suc (length c)) c) (λ ws d. and-then (read-lines (suc (length d)) false d) (λ b e.
+    and-then (read-name bs) (λ w c. and-then (read-upto read-name 64 c) (λ ws d. and-then (read-lines (suc (length d)) false d) (λ b e.
     got (record { name = w; numbers = ws; lines = b .lines }) e)))
 
 abbrev pub read-thing : List ℕ → Got Thing

@@ -1,5 +1,5 @@
 -- What a text is: a tree of kinds, things and messages, and the bytes that show it. Names that are there twice or not at all, numbers that
--- are too large, and the limits are not asked here.
+-- are too large, and the limits are not asked here, but that a kind has at most 64 numbers.
 use mathlib.Core.Bool.{Bool, true, false, _&&_, _||_, not}
 use mathlib.Core.List.{List, [], _∷_, _++_}
 use mathlib.Core.Path.{_≡_}
@@ -178,8 +178,9 @@ unfoldable pub every : {A : Type 0} → (A → Bool) → List A → Bool
 every p [] = true
 every p (x ∷ xs) = p x && every p xs
 
+-- So too of a kind, and it has at most 64 numbers.
 abbrev pub spelled-kind : Kind → Bool
-spelled-kind k = is-name (k .name) && (every is-name (k .numbers) && spelled-lines (k .lines))
+spelled-kind k = is-name (k .name) && (every is-name (k .numbers) && (leb (length (k .numbers)) 64 && spelled-lines (k .lines)))
 
 abbrev pub spelled-thing : Thing → Bool
 spelled-thing t = is-name (t .kind) && every is-number (t .numbers)
