@@ -4,6 +4,7 @@ mod tests {
     use body::Process;
     use meaning::Line;
     use meaning::Message;
+    use reader::form;
     use sequential::Outcome;
     use sequential::OutcomeDebug;
     use sequential::OutcomePartialEq;
@@ -404,5 +405,20 @@ mod tests {
         check_eq(lines[1].number, 10)?;
         check_eq(lines[2].number, 20)?;
         check_eq(lines[3].number, 30)
+    }
+
+    #[test]
+    fn texts_stop_at_the_first_bad_byte() -> Result<(), Fail> {
+        check(form(b"").is_ok())?;
+        check(form(
+            b"kind a x\nx = draw (x + 1)\nif it\nsay me\nelse\nend\nend\nthing a 7\nmessage 0 0 0\n",
+        ).is_ok())?;
+        check_eq(form(b"kind if\nend\n"), Err(7))?;
+        check_eq(form(b"kind abcdefghi\nend\n"), Err(13))?;
+        check_eq(form(b"kind a\nagain 1\nelse\nend\nend\n"), Err(19))?;
+        check_eq(form(b"kind a\nsay 01\nend\n"), Err(12))?;
+        check_eq(form(b"kind a\nsay (1 + 2\nend\n"), Err(17))?;
+        check_eq(form(b"kind a\nend\nthing a\nkind b\nend\n"), Err(19))?;
+        check_eq(form(b"kind a\nsay 1"), Err(12))
     }
 }
