@@ -160,8 +160,7 @@ class Reader:
         self.things = []
         self.messages = []
         self.others = 0             # lines so far that are no thing's and no message's
-        self.thing_lines = 0
-        self.message_lines = 0
+        self.seen = {b'thing ': 0, b'message ': 0}
         self.allowed = ['kind', 'thing', 'message']     # the words that may begin a line outside kinds
         self.blocks = []            # what is open, the innermost last
 
@@ -236,12 +235,16 @@ class Reader:
         self.kinds.append((name, numbers, lines))
         self.blocks.append(Block('kind', lines))
 
+    def first_word(self, line, word, most):
+        """The first word of a thing's or a message's line, of which there may be so many."""
+        self.seen[word] += 1
+        if self.seen[word] > most:
+            line.refuse(4, line.first)
+        line.literal(word)
+
     def thing(self, line):
         """thing NAME k k .."""
-        self.thing_lines += 1
-        if self.thing_lines > THINGS:
-            line.refuse(4, line.first)
-        line.literal(b'thing ')
+        self.first_word(line, b'thing ', THINGS)
         name, place = line.name()
         names = [kind[0] for kind in self.kinds]
         kind = line.index(name, place, names)
@@ -257,10 +260,7 @@ class Reader:
 
     def message(self, line):
         """message t f k"""
-        self.message_lines += 1
-        if self.message_lines > MESSAGES:
-            line.refuse(4, line.first)
-        line.literal(b'message ')
+        self.first_word(line, b'message ', MESSAGES)
         time, _ = line.number()
         line.literal(b' ')
         thing, place = line.number()
