@@ -1,4 +1,6 @@
 // anew: reads a text and writes it anew, with each else that has no lines left out.
+#![tactic(auto)]
+
 use anyhow::anyhow;
 use checker::{Refusal, rule_number};
 use std::alloc::Global;

@@ -1,11 +1,10 @@
 -- Lines with no lines in them: what the code does for each is what they say.
-use Rattle.std.proofs.Common.{◌≡◌, ℕ, ◌+◌, ◌<◌, ◌≤◌, min, true, false, cond, eqb, ltb, List, get_or, drop, set, sym, refl, ap, ◌∙◌, subst, ap₂}
-use Rattle.std.proofs.lemmas.Bool.{lt-ltb, le-ltb, cond-true, cond-false}
+use Rattle.std.proofs.Common.{◌≡◌, ℕ, ◌+◌, ◌<◌, ◌≤◌, min, List, get_or, drop, set, sym, refl, ◌∙◌, subst, ap₂}
+use Rattle.std.proofs.lemmas.Bool.{lt-ltb, le-ltb}
 use Rattle.meaning.specs.declared.Message.{Message}
 use Rattle.meaning.specs.declared.Line.{Line}
-use Rattle.meaning.specs.Model.{Body, value, next_seed, drawn}
+use Rattle.meaning.specs.Model.{Body, next_seed, drawn}
 use Rattle.body.specs.declared.Event.{Event}
-use Rattle.body.specs.declared.Tally.{Tally}
 use Rattle.body.specs.declared.Act.{Act}
 use Rattle.body.specs.declared.Act.TheVariants.{Assign, Draw, Say, Send}
 use Rattle.body.specs.Code.{act_by, expr_of, Evaluated}

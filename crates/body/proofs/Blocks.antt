@@ -1,7 +1,7 @@
 -- Lines one after the other and in each other: what the code does with them is what they say.
-use Rattle.std.proofs.Common.{◌≡◌, ℕ, zero, suc, ◌+◌, ◌-◌, ◌<◌, ◌≤◌, min, Bool, true, false, cond, eqb, ◌⊎◌, List, [], ◌∷◌, length, get_or, drop, sym, refl, ap, ◌∙◌, subst, inl, inr, sub-one, arith}
+use Rattle.std.proofs.Common.{◌≡◌, ℕ, zero, suc, ◌+◌, ◌-◌, ◌<◌, ◌≤◌, min, true, false, eqb, ◌⊎◌, List, [], ◌∷◌, length, get_or, drop, sym, refl, ap, ◌∙◌, subst, inl, inr, sub-one, arith}
 use Rattle.std.proofs.lemmas.Bool.{eqb-true, eq-eqb, ne_eqb, cond-true, cond-false}
-use Rattle.meaning.specs.Model.{Body, stop, iterate}
+use Rattle.meaning.specs.Model.{iterate}
 use Rattle.body.specs.declared.Event.{Event}
 use Rattle.body.specs.declared.Act.{Act}
 use Rattle.body.specs.declared.LineOp.{LineOp}

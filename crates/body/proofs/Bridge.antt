@@ -1,12 +1,12 @@
 -- Lines played in lent memory do what they do in the meaning, as far as there are places for it.
-use Rattle.std.proofs.Common.{◌≡◌, ℕ, zero, suc, ◌+◌, ◌-◌, ◌<◌, ◌≤◌, min, Bool, true, false, cond, eqb, ltb, List, [], ◌∷◌, ◌++◌, map, length, drop, set, sym, refl, ap, ◌∙◌, subst, ap₂, arith}
-use Rattle.std.proofs.lemmas.List.{length-append, length-map, map-append, length_push, map_push, drop_all}
+use Rattle.std.proofs.Common.{◌≡◌, ℕ, zero, suc, ◌+◌, ◌≤◌, min, Bool, true, false, cond, eqb, ltb, List, [], ◌∷◌, ◌++◌, map, length, set, sym, refl, ap, ◌∙◌, subst, arith}
+use Rattle.std.proofs.lemmas.List.{length-map, length_push, map_push}
 use Rattle.std.proofs.lemmas.Bool.{ltb-true, ltb-false}
 use Rattle.meaning.specs.declared.Message.{Message}
 use Rattle.meaning.specs.declared.Line.{Line}
-use Rattle.meaning.specs.Model.{Done, Body, stop, assign, draw, say, send, branch, repeat, value, exec, iterate, with_var, with_seed, with_line, with_sent, draws, sending, next_seed, drawn}
+use Rattle.meaning.specs.Model.{Done, Body, stop, assign, draw, say, send, branch, repeat, value, exec, iterate, with_var, with_seed, with_line, with_sent, draws, sending}
 use Rattle.body.specs.declared.Event.{Event}
-use Rattle.body.specs.Play.{Room, top, put_var, put_drawn, put_line, put_sent, letter, plays, value_at, filled}
+use Rattle.body.specs.Play.{Room, top, put_var, put_drawn, put_line, put_sent, letter, plays, filled}
 
 -- The places of row hold xs, as far as they reach.
 unfoldable pub over : {X : Type 0} → List X → List X → List X

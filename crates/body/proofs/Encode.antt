@@ -1,5 +1,5 @@
 -- The words of lines stand for those lines.
-use Rattle.std.proofs.Common.{◌≡◌, ℕ, zero, suc, ◌-◌, ◌<◌, ◌≤◌, List, [], ◌∷◌, ◌++◌, length, drop, refl, ◌∙◌, append_assoc, sub-one, arith, length-append}
+use Rattle.std.proofs.Common.{◌≡◌, ℕ, zero, suc, ◌-◌, ◌<◌, ◌≤◌, List, ◌∷◌, ◌++◌, length, drop, refl, ◌∙◌, append_assoc, sub-one, arith, length-append}
 use Rattle.std.proofs.lemmas.List.{drop_at}
 use Rattle.meaning.specs.Model.{Expr, fixed, var, it, me, clock, plus, minus, times, over, remains, less, same, Body, stop, assign, draw, say, send, branch, repeat}
 use Rattle.body.specs.declared.ExprOp.TheVariants.{Two}

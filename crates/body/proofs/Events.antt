@@ -1,17 +1,16 @@
 -- One event: what playing its lines in lent memory comes to.
-use Rattle.std.proofs.Common.{◌≡◌, ℕ, zero, suc, ◌+◌, ◌-◌, ◌<◌, ◌≤◌, min, Bool, true, false, cond, ltb, List, [], ◌∷◌, ◌++◌, map, length, Ok, Err, sym, refl, ap, ◌∙◌, subst, ap₂, arith}
+use Rattle.std.proofs.Common.{◌≡◌, ℕ, suc, ◌+◌, ◌-◌, ◌<◌, ◌≤◌, min, List, [], ◌∷◌, map, length, Ok, Err, sym, refl, ap, ◌∙◌, subst, ap₂, arith}
 use Rattle.std.proofs.lemmas.Bool.{lt-ltb, le-ltb}
 use Rattle.meaning.specs.declared.Message.{Message}
 use Rattle.meaning.specs.declared.Line.{Line}
-use Rattle.meaning.specs.Model.{Done, exec}
+use Rattle.meaning.specs.Model.{Done}
 use Rattle.meaning.proofs.Exec.{Counted, Extends, extends_exec}
 use Rattle.body.specs.declared.Event.{Event}
 use Rattle.body.specs.declared.Tally.{Tally}
-use Rattle.body.specs.declared.Process.{Process}
-use Rattle.body.specs.declared.Refusal.TheVariants.{Sends, Lines, Count}
+use Rattle.body.specs.declared.Refusal.TheVariants.{Count}
 use Rattle.body.specs.Code.{body_of}
-use Rattle.body.specs.Play.{Room, room, top, plays, does_at, tally_of, answer, Lent, lent_after, filled}
-use Rattle.body.proofs.Bridge.{over, over_filled, capped, shown, Tied, bridge}
+use Rattle.body.specs.Play.{Room, room, top, plays, does_at, tally_of, answer, filled}
+use Rattle.body.proofs.Bridge.{over, over_filled, capped, shown, bridge}
 
 -- Before its first line an event has sent and said nothing.
 abbrev pub fresh : ℕ → List ℕ → ℕ → Done

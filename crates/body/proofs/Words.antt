@@ -1,13 +1,13 @@
 -- Equations of the words' meaning, by which the code's answers go.
-use Rattle.std.proofs.Common.{◌≡◌, ℕ, zero, suc, ◌+◌, ◌-◌, ◌*◌, ◌/◌, ◌%◌, ◌<◌, ◌≤◌, Bool, true, false, cond, eqb, ◌⊎◌, List, [], ◌∷◌, length, get_or, drop, sym, refl, ap, ◌∙◌, subst, inl, inr, ⊎_elim, sub-one, arith}
+use Rattle.std.proofs.Common.{◌≡◌, ℕ, zero, suc, ◌-◌, ◌%◌, ◌<◌, true, false, eqb, ◌⊎◌, List, [], ◌∷◌, length, get_or, drop, sym, refl, ap, ◌∙◌, subst, inl, inr, sub-one, arith}
 use Rattle.std.proofs.lemmas.Bool.{both_ways, eqb-true}
 use Rattle.body.specs.declared.Event.{Event}
 use Rattle.body.specs.declared.ExprOp.{ExprOp}
 use Rattle.body.specs.declared.ExprOp.TheVariants.{Fixed, Var, It, Me, Clock, Two, Nothing}
-use Rattle.meaning.specs.Model.{Expr, fixed, var, it, me, clock, value, in_whole}
+use Rattle.meaning.specs.Model.{Expr, value, in_whole}
 use Rattle.body.specs.declared.Binary.{Binary}
 use Rattle.body.specs.declared.Binary.TheVariants.{Plus, Minus, Times, Over, Remains, Less, Same}
-use Rattle.body.specs.Code.{Read, expr_of, expr_by, expr_op, of_two, binary_result, Evaluated}
+use Rattle.body.specs.Code.{expr_of, expr_by, expr_op, of_two, binary_result, Evaluated}
 
 pub small : (a : ℕ) → a < 4294967296 → in_whole a ≡ a
 unfolding in_whole

@@ -1,6 +1,6 @@
 -- Lines and expressions as words: what a row of words stands for. Every row stands for something: words that are missing are 0,
 -- and a word that opens no expression is the number 0, one that opens no line the end.
-use Rattle.std.specs.Prelude.{◌≡◌, ℕ, zero, suc, ◌+◌, ◌-◌, ◌*◌, ◌/◌, ◌%◌, Bool, cond, List, [], ◌∷◌, drop, ◌==◌, nat_lt, slice_index}
+use Rattle.std.specs.Prelude.{◌≡◌, ℕ, zero, suc, ◌+◌, ◌-◌, ◌*◌, ◌/◌, ◌%◌, cond, List, [], ◌∷◌, drop, ◌==◌, nat_lt, slice_index}
 use Rattle.meaning.specs.Model.{Expr, fixed, var, it, me, clock, plus, minus, times, over, remains, less, same, Body, stop, assign, draw, say, send, branch, repeat, in_whole, whole, value}
 use Rattle.body.specs.declared.Event.{Event}
 use Rattle.body.specs.declared.Binary.{Binary}

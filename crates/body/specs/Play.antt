@@ -1,5 +1,5 @@
 -- Lines played in lent memory: places for what is sent and said, and counts that go on where the places end.
-use Rattle.std.specs.Prelude.{◌≡◌, ℕ, zero, suc, ◌+◌, min, cond, List, [], ◌++◌, length, drop, Ok, Err, Result, ◌==◌, nat_lt, slice_set}
+use Rattle.std.specs.Prelude.{◌≡◌, ℕ, ◌+◌, min, cond, List, [], ◌++◌, length, drop, Ok, Err, Result, ◌==◌, nat_lt, slice_set}
 use Rattle.body.specs.declared.Act.{Act}
 use Rattle.body.specs.Code.{act_by, expr_of, body_of}
 use Rattle.meaning.specs.declared.Message.{Message}

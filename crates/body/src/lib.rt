@@ -1,4 +1,6 @@
 // Bodies as words, and what a process does with a message.
+#![tactic(auto)]
+
 ghost use Rattle.body.specs.Play.{Room, room, put_var, put_drawn, Lent, letter, plays, Acted, does, does_at, tally_of, answer, lent_after};
 ghost use Rattle.meaning.specs.Model.{next_seed, drawn};
 ghost use Rattle.std.specs.Prelude.{◌≡◌, ℕ, ◌<◌, ◌≤◌, length, drop, slice_index, slice_set};

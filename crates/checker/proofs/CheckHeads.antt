@@ -8,7 +8,6 @@ use Rattle.grammar.specs.Check.{Checked, taken, refused, then, formed, check_lit
 use Rattle.checker.specs.declared.Word.{Word}
 use Rattle.checker.specs.declared.Word.TheVariants.{Kind, Say, Send, To, After, If, Else, End, Again, Thing, Message, Draw, It, Me, Now, Name}
 use Rattle.checker.specs.declared.lines.Sort.{Sort}
-use Rattle.checker.specs.declared.lines.Sort.TheVariants as Sort
 use Rattle.checker.specs.Words.{pack, word_by, spelling}
 use Rattle.checker.specs.Refusals.{forget}
 use Rattle.checker.specs.Heads.{sorted, sort_of, sort_by}

@@ -1,14 +1,14 @@
 -- Names of a kind's numbers, its first line and the kind, with all their rules.
-use Rattle.std.proofs.Common.{◌≡◌, ℕ, zero, suc, ◌+◌, ◌-◌, ◌<◌, ◌≤◌, Bool, true, false, cond, eqb, ltb, leb, List, [], ◌∷◌, ◌++◌, map, length, get_or, take, drop, codes, sym, refl, ap, ◌∙◌, subst, ap₂, append_assoc, append-nil, arith}
+use Rattle.std.proofs.Common.{◌≡◌, ℕ, zero, suc, ◌+◌, ◌-◌, ◌<◌, ◌≤◌, Bool, true, false, cond, eqb, ltb, leb, List, [], ◌∷◌, ◌++◌, length, get_or, drop, codes, sym, refl, ap, ◌∙◌, subst, ap₂, append_assoc, append-nil, arith}
 use Rattle.std.proofs.lemmas.List.{drop_more, drop_all, length-drop, drop-drop}
 use Rattle.std.proofs.lemmas.Bool.{eq-eqb, ne_eqb, ltb-true, and_parts, cond-true, cond-false}
 use Rattle.grammar.specs.Syntax.{among, newline, is_letter, is_name, in_word}
 use Rattle.grammar.specs.Parse.{Got, got, bad, Close, expect, more_word, checked, read_word, read_name}
-use Rattle.grammar.specs.Check.{Checked, taken, refused, then, formed, check_literal, check_new, check_names, Known, known, First, check_first, most_names, most_deep, line_bytes, too_long, overrun, in_line, Block, check_lines, Counted, check_kind}
+use Rattle.grammar.specs.Check.{Checked, taken, refused, then, formed, check_literal, check_new, check_names, Known, First, check_first, most_names, most_deep, line_bytes, too_long, overrun, in_line, Block, check_lines, Counted, check_kind}
 use Rattle.checker.specs.declared.Refusal.{Refusal}
 use Rattle.checker.specs.Blocks.{Shape, shape}
 use Rattle.checker.specs.Refusals.{number_of, refused_at}
-use Rattle.checker.specs.Texts.{Seen, without_lines}
+use Rattle.checker.specs.Texts.{without_lines}
 use Rattle.checker.proofs.Unpacked.{names_of}
 
 -- Names with others before them.

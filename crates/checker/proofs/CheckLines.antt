@@ -1,8 +1,7 @@
 -- Lines one after the other and in each other, by where they end, how they close and how many may still come.
-use Rattle.std.proofs.Common.{◌≡◌, ℕ, zero, suc, ◌-◌, ◌<◌, ◌≤◌, Bool, true, false, eqb, List, length, get_or, drop, sym, refl, ap, ◌∙◌, arith}
-use Rattle.std.proofs.lemmas.List.{drop_more, drop_all}
+use Rattle.std.proofs.Common.{◌≡◌, ℕ, zero, suc, ◌-◌, Bool, true, false, eqb, List, drop, sym, refl, ap, ◌∙◌, arith}
 use Rattle.std.proofs.lemmas.Bool.{eq-eqb, ne_eqb, cond-true, cond-false}
-use Rattle.grammar.specs.Syntax.{Term, Lines, is_letter}
+use Rattle.grammar.specs.Syntax.{Term, Lines}
 use Rattle.grammar.specs.Parse.{Close, by_end, by_else}
 use Rattle.grammar.specs.Check.{Checked, taken, refused, then, Head, ends, elses, assigns, draws, says, sends, whens, agains, Block, before_block, excess, in_line, check_head, check_behind, check_lines}
 use Rattle.checker.specs.declared.lines.Sort.{Sort}

@@ -1,8 +1,8 @@
 -- How many bytes a kind takes that was read with all its rules: as many as show it.
-use Rattle.std.proofs.Common.{◌≡◌, ℕ, zero, suc, ◌+◌, ◌-◌, ◌<◌, ◌≤◌, Bool, true, false, cond, eqb, leb, List, [], ◌∷◌, ◌++◌, length, drop, codes, sym, refl, ap, ◌∙◌, subst, arith, length-append}
-use Rattle.grammar.specs.Syntax.{is_letter, is_digit, in_word, same, among, is_name, is_operand, newline, Sign, Term, number, word, two, Lines, none, assign, draw, say, send, when, choose, again, Kind, show_term, show_lines, show_row, show_kinds}
+use Rattle.std.proofs.Common.{◌≡◌, ℕ, zero, suc, ◌+◌, ◌-◌, Bool, true, false, cond, eqb, leb, List, [], ◌∷◌, ◌++◌, length, codes, refl, ap, subst, arith, length-append}
+use Rattle.grammar.specs.Syntax.{is_letter, is_digit, in_word, same, among, is_name, is_operand, newline, Sign, Term, two, Lines, assign, draw, say, send, when, choose, again, Kind, show_term, show_lines, show_row, show_kinds}
 use Rattle.grammar.specs.Parse.{Got, got, bad, Close, by_end, by_else, expect, more_word, read_word, checked, read_name, more_digits, after_zero, read_number, read_sign}
-use Rattle.grammar.specs.Check.{Checked, taken, refused, then, formed, check_literal, check_number, check_operand, check_plain, check_two, check_term, check_last, line_bytes, Head, ends, elses, assigns, draws, says, sends, whens, agains, check_rest, check_send, check_value, check_assign, check_deeper, check_by, check_head, overrun, too_long, in_line, Block, before_block, excess, check_behind, check_lines, check_new, check_names, Known, First, check_first, most_names, most_deep, Counted, check_kind}
+use Rattle.grammar.specs.Check.{Checked, taken, refused, then, formed, check_literal, check_number, check_operand, check_plain, check_two, check_term, check_last, line_bytes, Head, ends, elses, assigns, draws, says, sends, whens, agains, check_rest, check_send, check_value, check_deeper, check_by, check_head, too_long, in_line, Block, before_block, excess, check_behind, check_lines, check_new, check_names, Known, First, check_first, most_names, most_deep, Counted, check_kind}
 use Rattle.grammar.proofs.Words.{same_is}
 
 -- What was read takes as many bytes as f says, of t.

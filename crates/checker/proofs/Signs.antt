@@ -1,8 +1,8 @@
 -- The sign of an operation, at a place.
-use Rattle.std.proofs.Common.{◌≡◌, ℕ, ◌+◌, ◌<◌, ◌≤◌, Bool, true, false, cond, eqb, List, [], ◌∷◌, length, get_or, drop, sym, refl, ap, ◌∙◌}
+use Rattle.std.proofs.Common.{◌≡◌, ℕ, ◌+◌, ◌<◌, ◌≤◌, Bool, true, false, cond, eqb, List, ◌∷◌, length, get_or, drop, sym, refl, ap, ◌∙◌}
 use Rattle.std.proofs.lemmas.List.{drop_more, drop_all}
 use Rattle.std.proofs.lemmas.Bool.{cond-true, cond-false}
-use Rattle.grammar.specs.Syntax.{Sign, plus, minus, times, over, remains, less, equal}
+use Rattle.grammar.specs.Syntax.{plus, minus, times, over, remains, less, equal}
 use Rattle.grammar.specs.Parse.{got, bad, read_sign}
 use Rattle.checker.specs.Places.{forget, is_sign}
 

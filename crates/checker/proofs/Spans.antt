@@ -4,7 +4,7 @@ use Rattle.std.proofs.lemmas.List.{drop_more, drop_all, take_more, get_or-drop, 
 use Rattle.std.proofs.lemmas.Bool.{eq-eqb, ne_eqb, eqb-true, both_ways, cond-true, cond-false}
 use Rattle.grammar.specs.Syntax.{is_letter, is_digit, in_word}
 use Rattle.grammar.specs.Parse.{Got, got, bad, expect, more_word, read_word, more_digits, after_zero, read_number}
-use Rattle.checker.specs.Places.{at_place, span}
+use Rattle.checker.specs.Places.{span}
 
 -- One more byte of a literal.
 pub expect_more : (cs bs : List ℕ) (i n : ℕ) → i < length cs → n < length bs → get_or bs n 0 ≡ get_or cs i 0 →

@@ -1,19 +1,15 @@
 -- Names that are kept as packed words: which are the same, and which are in a table.
-use Rattle.std.proofs.Common.{◌≡◌, ℕ, zero, suc, ◌+◌, ◌-◌, ◌*◌, ◌/◌, ◌%◌, ◌<◌, ◌≤◌, Bool, true, false, cond, ◌&&◌, ◌||◌, eqb, leb, ◌⊎◌, List, [], ◌∷◌, map, length, get_or, drop, Some, None, Option, sym, refl, ap, ◌∙◌, subst, ap₂, inl, inr, arith}
-use native.Mathlib.Nat.{mod-add-div}
-use lib.Arith.{digits_div, digits_mod}
+use Rattle.std.proofs.Common.{◌≡◌, ℕ, ◌+◌, ◌<◌, ◌≤◌, Bool, true, false, cond, ◌||◌, eqb, ◌⊎◌, List, [], ◌∷◌, map, length, get_or, drop, Some, None, sym, refl, ap, ◌∙◌, subst, inl, inr, arith}
 use Rattle.std.proofs.lemmas.List.{drop_more, drop_all}
-use Rattle.std.proofs.lemmas.Bool.{eq-eqb, ne_eqb, both_ways, and_parts, leb-true, or_cases, cases_eq, cases_Bool, cond-true, cond-false}
-use Rattle.grammar.specs.Syntax.{all, same, among, in_word, is_letter, is_digit, is_word, is_name}
+use Rattle.std.proofs.lemmas.Bool.{eq-eqb, ne_eqb, and_parts, cases_eq, cases_Bool, cond-true, cond-false}
+use Rattle.grammar.specs.Syntax.{same, among, is_word, is_name}
 use Rattle.grammar.specs.Parse.{Got, got, bad, checked, read_word, read_name}
 use Rattle.grammar.specs.Check.{Known, count_of}
 use Rattle.grammar.proofs.Words.{same_is, same_self}
 use Rattle.checker.specs.declared.texts.Kept.{Kept}
-use Rattle.checker.specs.Refusals.{names_in}
-use Rattle.checker.specs.Texts.{known_in, known_by, counted_by}
-use Rattle.checker.specs.Words.{pack, unpack, unpack_upto}
+use Rattle.checker.specs.Texts.{known_in, counted_by}
+use Rattle.checker.specs.Words.{pack, unpack}
 use Rattle.checker.proofs.CheckNames.{packed_again}
-use Rattle.checker.proofs.Packs.{word_good}
 
 -- Packed words are the same as they are unpacked.
 pub same_unpacked : (p q : ℕ) → p < 18446744073709551616 → q < 18446744073709551616 → same (unpack p) (unpack q) ≡ eqb p q

@@ -3,7 +3,6 @@ use Rattle.std.specs.Prelude.{ℕ, List, drop, Ok, Err, Result}
 use Rattle.grammar.specs.Check.{Checked, taken, refused, Head, ends, elses, assigns, draws, says, sends, whens, agains}
 use Rattle.checker.specs.declared.Refusal.{Refusal}
 use Rattle.checker.specs.declared.Word.{Word}
-use Rattle.checker.specs.declared.Word.TheVariants as Word
 use Rattle.checker.specs.declared.lines.Sort.{Sort}
 use Rattle.checker.specs.declared.lines.Sort.TheVariants.{End, Else, Simple, Again, If}
 use Rattle.checker.specs.declared.lines.HeadAt.{HeadAt}

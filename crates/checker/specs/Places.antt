@@ -2,7 +2,6 @@
 use Rattle.std.specs.Prelude.{ℕ, ◌-◌, Bool, true, false, cond, List, take, drop, Ok, Err, Result, ◌==◌}
 use Rattle.grammar.specs.Parse.{Close, by_end, by_else, Got, got, bad}
 use Rattle.checker.specs.declared.Closing.{Closing}
-use Rattle.checker.specs.declared.Closing.TheVariants as Closing
 
 -- What was read is left out.
 abbrev pub forget : {A : Type 0} → Got A → Got (Unit {0})

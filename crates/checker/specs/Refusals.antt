@@ -1,5 +1,5 @@
 -- Refusals by number and place, and what a function that reads answers, as places in lent bytes.
-use Rattle.std.specs.Prelude.{ℕ, Bool, true, false, cond, List, [], ◌∷◌, map, drop, Some, None, Ok, Err, Option, Result, nat_lt}
+use Rattle.std.specs.Prelude.{ℕ, cond, List, map, drop, Some, None, Ok, Err, Option, Result, nat_lt}
 use Rattle.grammar.specs.Check.{Checked, taken, refused, decimal, too_large}
 use Rattle.checker.specs.declared.Rule.{Rule}
 use Rattle.checker.specs.declared.Rule.TheVariants.{Form, Name, Number, Limit, Lent, Letter}

@@ -1,5 +1,7 @@
 // Whether bytes are a text that is taken, and else the refusal: each function answers where what it reads ends, or which rule is broken, and where.
 // Here are words, numbers and limits; `lines` has the lines of a kind, `texts` kinds, things, messages and whole texts.
+#![tactic(auto)]
+
 ghost use Rattle.std.specs.Prelude.{◌≡◌, ℕ, ◌+◌, ◌<◌, ◌≤◌, length, drop, IfOk};
 ghost use Rattle.grammar.specs.Parse.{expect, read_word, read_number, read_name, read_sign};
 ghost use Rattle.grammar.specs.Syntax.{is_letter, is_digit, in_word};

@@ -1,10 +1,10 @@
 -- What is checked of lines follows what is read, and lines that are taken keep their rules.
 use Rattle.std.proofs.Common.{◌≡◌, ℕ, zero, suc, ◌+◌, ◌-◌, ◌<◌, ◌≤◌, max, Bool, true, false, not, ◌&&◌, eqb, List, [], ◌∷◌, ◌++◌, length, codes, sym, refl, ap, ◌∙◌, subst, arith, length-append}
-use Rattle.std.proofs.lemmas.Bool.{and_from, and_parts, cond-false, cond_both, not-true, eqb-false}
-use Rattle.grammar.specs.Syntax.{is_letter, among, Term, Lines, assign, draw, say, send, when, choose, again, every}
+use Rattle.std.proofs.lemmas.Bool.{and_from, and_parts, cond_both, not-true, eqb-false}
+use Rattle.grammar.specs.Syntax.{among, Term, Lines, assign, draw, say, send, when, choose, again, every}
 use Rattle.grammar.specs.Parse.{Got, got, and_then, read_word, Close, by_end, by_else, read_by, read_lines}
 use Rattle.grammar.specs.Parse as read
-use Rattle.grammar.specs.Check.{Checked, refused, then, line_bytes, Head, ends, elses, assigns, draws, says, sends, whens, agains, too_long, Block, before_block, check_behind, check_lines}
+use Rattle.grammar.specs.Check.{Checked, then, line_bytes, Head, ends, elses, assigns, draws, says, sends, whens, agains, too_long, Block, before_block, check_behind, check_lines}
 use Rattle.grammar.specs.Rules.{right_term, right_lines, depth, lines_of, short}
 use Rattle.grammar.proofs.Trees.{lines_reads, closed}
 use Rattle.grammar.proofs.Follow.{Follows, took, off, on, next, then_as, unless_over, excess_follows}

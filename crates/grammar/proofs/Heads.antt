@@ -1,5 +1,5 @@
 -- The first line of lines: its bytes, what it must keep, and that what is checked of it follows what is read.
-use Rattle.std.proofs.Common.{◌≡◌, ℕ, suc, ◌+◌, ◌<◌, Bool, true, false, cond, not, ◌&&◌, eqb, List, [], ◌∷◌, ◌++◌, length, codes, sym, refl, ap, ◌∙◌, subst, append_assoc, arith}
+use Rattle.std.proofs.Common.{◌≡◌, ℕ, suc, ◌<◌, Bool, true, false, cond, not, ◌&&◌, eqb, List, [], ◌∷◌, ◌++◌, length, codes, sym, refl, ap, ◌∙◌, subst, append_assoc, arith}
 use Rattle.std.proofs.lemmas.Bool.{and_from, cond-true, cond-false, cond_both, not_from_false}
 use Rattle.grammar.specs.Syntax.{is_letter, same, among, is_name, is_operand, newline, Term, word, none, assign, draw, say, send, again, show_term, spelled_term}
 use Rattle.grammar.specs.Parse.{Got, got, bad, and_then, expect, read_word, checked, read_term, read_expr, read_last, by_end, by_else, Block, before_block, read_by}

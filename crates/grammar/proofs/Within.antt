@@ -14,7 +14,7 @@ use Rattle.grammar.proofs.Short.{inside, ends_late, head_inside}
 use Rattle.grammar.proofs.Blocks.{every_join, lines_follow, check_closed}
 use Rattle.grammar.proofs.Taken.{first_line, first_within}
 use Rattle.grammar.proofs.Edges.{begins_behind, line_begins}
-use Rattle.grammar.proofs.Faulty.{fine, Faults, Found, by_either, no_fault, at_fault, afters, ended, then_faults, over_faults, excess_faults, excess_form}
+use Rattle.grammar.proofs.Faulty.{fine, Faults, Found, by_either, afters, ended, then_faults, over_faults, excess_faults, excess_form}
 use Rattle.grammar.proofs.Line.{LineFault, unknown, large, deeper, longer, head_faults}
 use Rattle.grammar.proofs.Joined.{joined_append, lines_joined, kinds_joined, open_append, name_line, lines_open, lines_within, kinds_within}
 

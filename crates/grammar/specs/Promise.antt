@@ -1,6 +1,6 @@
 -- What is promised of texts. Each statement is a type, and some function's contract is that statement.
-use Rattle.std.specs.Prelude.{◌≡◌, ℕ, ◌≤◌, true, List, [], ◌∷◌, ◌++◌}
-use Rattle.grammar.specs.Syntax.{Text, IsText, in_word}
+use Rattle.std.specs.Prelude.{◌≡◌, ℕ, List, [], ◌∷◌, ◌++◌}
+use Rattle.grammar.specs.Syntax.{Text, IsText}
 use Rattle.grammar.specs.Parse.{got, bad, parse}
 use Rattle.grammar.specs.Check.{taken, refused, check}
 use Rattle.grammar.specs.Rules.{Keeps}

@@ -1,5 +1,5 @@
 -- What a tree must keep beyond its spelling, so that its text is taken.
-use Rattle.std.specs.Prelude.{◌≡◌, ℕ, zero, suc, ◌+◌, ◌≤◌, max, Bool, true, false, cond, not, ◌&&◌, ◌||◌, List, [], ◌∷◌, ◌++◌, map, length, codes, ◌==◌, nat_le, nat_lt}
+use Rattle.std.specs.Prelude.{◌≡◌, ℕ, suc, ◌≤◌, max, Bool, true, not, ◌&&◌, ◌||◌, List, [], ◌∷◌, ◌++◌, map, length, codes, ◌==◌, nat_le, nat_lt}
 use Rattle.grammar.specs.Syntax.{among, every, Term, number, word, two, Lines, none, assign, draw, say, send, when, choose, again, Kind, Thing, Note, Text, show_term, show_row, show}
 use Rattle.grammar.specs.Check.{too_large, most_deep, most_lines, line_bytes, most_things, most_notes, text_bytes, decimal, stand_ins, Known, known, count_of}
 

@@ -1,6 +1,6 @@
 -- What a text is: a tree of kinds, things and messages, and the bytes that show it. Names that are there twice or not at all, numbers that
 -- are too large, and the limits are not asked here, but that a kind has at most 64 numbers.
-use Rattle.std.specs.Prelude.{◌≡◌, ℕ, ◌≤◌, Bool, true, false, not, ◌&&◌, ◌||◌, List, [], ◌∷◌, ◌++◌, length, codes, ◌==◌, nat_le}
+use Rattle.std.specs.Prelude.{◌≡◌, ℕ, Bool, true, false, not, ◌&&◌, ◌||◌, List, [], ◌∷◌, ◌++◌, length, codes, ◌==◌, nat_le}
 
 -- a to z.
 abbrev pub is_letter : ℕ → Bool

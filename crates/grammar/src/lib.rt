@@ -1,4 +1,6 @@
 // What a text is, as definitions in specs/, and what is proved of it.
+#![tactic(auto)]
+
 ghost use Rattle.grammar.specs.Promise.{OneTree, ReadShown, StopsFirst, TakenExactly, RefusedForm};
 ghost use Rattle.grammar.specs.Faults.{RefusedFault};
 

@@ -1,4 +1,6 @@
 // What workers write to each other, in bytes; docs/LETTERS.md has every byte.
+#![tactic(auto)]
+
 ghost use Rattle.std.specs.Prelude.{◌≡◌, ℕ, ◌+◌, ◌^◌, ◌<◌, ◌≤◌, true, ◌&&◌, List, ◌∷◌, ◌++◌, length, take, drop, is_some, if◌then◌else◌, Some, None, MatchResult, nat_le};
 ghost use Rattle.letters.specs.Promise.{ReadBack, ReadSo, NoTwo, AtMost, MessagesBack, LinesBack};
 ghost use Rattle.letters.specs.Letters.{little, number_at, put, message_bytes, message_of, line_bytes, line_of, size, carries, in_bounds, fits, head, head_bytes, letter_bytes, well_formed, kept, told, lines_of, printed_of, letter_of, last, part, IsLetter, no_letter};

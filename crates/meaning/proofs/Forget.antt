@@ -1,5 +1,5 @@
 -- What was said before stands in front, and nothing else of a run depends on it.
-use Rattle.std.proofs.Common.{◌≡◌, ℕ, zero, suc, Bool, true, false, cond, ltb, List, [], ◌∷◌, ◌++◌, refl, ap, ◌∙◌, append_assoc}
+use Rattle.std.proofs.Common.{◌≡◌, ℕ, zero, suc, Bool, true, false, cond, ltb, List, [], ◌∷◌, refl, ap, ◌∙◌, append_assoc}
 use Rattle.meaning.specs.declared.Line.{Line}
 use Rattle.meaning.specs.declared.Message.{Message}
 use Rattle.meaning.specs.Model.{Model, State, handling, step_with, step, steps, handle_in, handled_in, insert_all}

@@ -7,7 +7,7 @@ use Rattle.std.proofs.lemmas.Bool.{cond_both, both_ways}
 use Rattle.meaning.specs.declared.Message.{Message}
 use Rattle.meaning.specs.Model.{before, insert, insert_all}
 use Rattle.meaning.specs.Promise.{Sorted}
-use Rattle.meaning.proofs.Order.{Apart, apart, apart_swap, before_trans, before_irreflexive, before_asymmetric, before_differs}
+use Rattle.meaning.proofs.Order.{Apart, apart_swap, before_trans, before_irreflexive, before_asymmetric, before_differs}
 use Rattle.meaning.proofs.Members.{Member, all_member, all_from_member}
 
 -- Every message of the list comes after a.

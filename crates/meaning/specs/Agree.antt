@@ -1,9 +1,9 @@
 -- Several players: each plays the messages to its own processes, in their order, from what waits at the start and from what the others
 -- tell it that they sent. No letters, guesses or takings back in it.
-use Rattle.std.specs.Prelude.{◌≡◌, ℕ, zero, suc, ◌+◌, ◌%◌, ◌<◌, ◌≤◌, ◌⊎◌, List, [], ◌∷◌, ◌++◌, length, slice_index_or}
+use Rattle.std.specs.Prelude.{◌≡◌, ℕ, zero, suc, ◌+◌, ◌%◌, ◌<◌, ◌≤◌, ◌⊎◌, List, length, slice_index_or}
 use Rattle.std.specs.List.{ContainsAt as Has}
 use Rattle.meaning.specs.declared.Message.{Message}
-use Rattle.meaning.specs.Model.{Model, Process, State, nobody, steps, start}
+use Rattle.meaning.specs.Model.{Model, Process, nobody, steps, start}
 use Rattle.meaning.specs.Law.{replay, sent_along}
 use Rattle.meaning.specs.Promise.{Proper, Outside, Sorted}
 

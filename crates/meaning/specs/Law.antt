@@ -3,7 +3,7 @@ use Rattle.std.specs.Prelude.{◌≡◌, ℕ, ◌<◌, ◌≤◌, List, [], ◌�
 use Rattle.std.specs.List.{ContainsAt as Has}
 use Rattle.meaning.specs.declared.Message.{Message}
 use Rattle.meaning.specs.declared.Line.{Line}
-use Rattle.meaning.specs.Model.{Model, Process, State, handle_in, handled_in, initial, step, steps, start}
+use Rattle.meaning.specs.Model.{Model, Process, handle_in, handled_in, initial, step, steps, start}
 use Rattle.meaning.specs.Promise.{Proper, Outside, Sorted}
 
 -- The processes after the messages of a history were handled in its order, each by its process as the earlier ones left it.

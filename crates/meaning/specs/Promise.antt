@@ -2,7 +2,7 @@
 use Rattle.std.specs.Prelude.{◌≡◌, ℕ, ◌+◌, ◌<◌, ◌≤◌, true, ◌≢◌, List, [], ◌++◌, length, slice_index, slice_index_or}
 use Rattle.meaning.specs.declared.Line.{Line}
 use Rattle.meaning.specs.declared.Message.{Message}
-use Rattle.meaning.specs.Model.{Model, State, Process, Done, handle, handle_in, handled_in, before, steps, start}
+use Rattle.meaning.specs.Model.{Model, State, Process, handle, handle_in, handled_in, before, steps, start}
 
 -- Models whose kinds are there, with as many rows of variables as processes, all below 2^32, at most 64 each.
 abbrev pub Proper : Model → Type 0

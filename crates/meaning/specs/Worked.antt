@@ -3,7 +3,7 @@ use Rattle.std.specs.Prelude.{◌≡◌, ℕ, List, [], ◌∷◌}
 use Rattle.std.specs.List.{AllByRecursion as All}
 use Rattle.meaning.specs.declared.Message.{Message}
 use Rattle.meaning.specs.declared.Line.{Line}
-use Rattle.meaning.specs.Model.{Model, Body, Expr, fixed, var, it, me, clock, plus, minus, over, remains, less, stop, assign, say, send, branch, step, steps, start}
+use Rattle.meaning.specs.Model.{Model, Body, fixed, var, it, me, plus, minus, over, remains, less, stop, assign, say, send, branch, step, steps, start}
 
 -- A row of the table: the model, the end, the messages from outside, in how many steps, and the lines it says. The run's seed is 1.
 pub record Example : Type 0 where

@@ -1,4 +1,6 @@
 // The meaning of a model, as definitions in specs/, and what is proved of it. The code above is held to these definitions.
+#![tactic(auto)]
+
 ghost use Rattle.meaning.specs.Agree.{Agreement};
 ghost use Rattle.meaning.specs.Law.{WholeRun};
 ghost use Rattle.meaning.specs.Promise.{InOrder, Independent, Later, MayForget};

@@ -1,4 +1,6 @@
 // Workers and the letters under way between them, as definitions in specs/, and what is proved of them.
+#![tactic(auto)]
+
 ghost use Rattle.net.specs.Promise.{SameSaid, NeverBack, AllTold, Pieces, Fits, ComesToEnd};
 
 // What was told is a beginning of what the meaning says.

@@ -1,4 +1,6 @@
 // plain: plays models one message after the other, and prints what they say. Until texts are read it has a table of models.
+#![tactic(auto)]
+
 ghost use Rattle.std.specs.Prelude.{◌≡◌, ◌*◌, length, IfOk, vec_len};
 
 mod table;

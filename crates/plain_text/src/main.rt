@@ -1,4 +1,6 @@
 // plain: plays a text one message after the other, and prints what it says.
+#![tactic(auto)]
+
 use anyhow::anyhow;
 use checker::{Refusal, number_of, rule_number};
 use std::alloc::Global;

@@ -1,5 +1,7 @@
 // Messages that wait, in a row that the caller lends: the first `len` places are in use, and the last in use is the
 // first to be handled. So taking the first moves nothing, and putting one in moves only those that come before it.
+#![tactic(auto)]
+
 ghost use Rattle.std.specs.Prelude.{◌≡◌, ◌+◌, ◌<◌, length, MatchOption, MatchResult};
 ghost use Rattle.meaning.specs.Model.{before};
 ghost use Rattle.meaning.specs.Promise.{Sorted};

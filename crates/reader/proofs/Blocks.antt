@@ -1,12 +1,12 @@
 -- Lines one after the other and in each other, by where they end and how they close.
-use Rattle.std.proofs.Common.{◌≡◌, ℕ, zero, suc, ◌-◌, Bool, true, false, cond, List, [], ◌∷◌, codes, sym, refl, ap, ◌∙◌, subst, ap₂, arith}
+use Rattle.std.proofs.Common.{◌≡◌, ℕ, zero, suc, ◌-◌, Bool, true, false, cond, List, [], ◌∷◌, codes, sym, refl, ap, ◌∙◌, arith}
 use Rattle.std.proofs.lemmas.Bool.{cond-true, cond-false, or_parts}
-use Rattle.grammar.specs.Syntax.{newline, is_letter, is_operand, is_name, all, same, among, reserved, Term, Lines, none}
+use Rattle.grammar.specs.Syntax.{newline, is_letter, is_operand, is_name, all, same, among, reserved, Term, Lines}
 use Rattle.grammar.specs.Parse.{Got, got, bad, and_then, expect, read_word, read_expr, read_last, read_lines, read_by, read_assign, before_block, Block, Close, by_end, by_else}
 use Rattle.reader.specs.declared.Word.{Word}
 use Rattle.reader.specs.declared.Word.TheVariants.{Kind, Say, Send, To, After, If, Else, End, Again, Thing, Message, Draw, It, Me, Now, Name}
 use Rattle.reader.specs.Words.{pack, word_by, spelling}
-use Rattle.reader.specs.Places.{forget, shape, read_head, read_sent, read_drawn, read_value, read_put, read_simple}
+use Rattle.reader.specs.Places.{forget, shape, read_head, read_drawn, read_value, read_put, read_simple}
 use Rattle.reader.proofs.Terms.{forget_unit}
 use Rattle.reader.proofs.Puts.{only_place}
 use Rattle.reader.proofs.Packs.{a_name, no_word, word_bytes, word_good, spelled_so, not_Kind, not_Say, not_Send, not_To, not_After, not_If, not_Else, not_End, not_Again, not_Thing, not_Message, not_Draw, not_It, not_Me, not_Now}

@@ -1,5 +1,5 @@
 -- From where reading ends to what texts there are.
-use Rattle.std.proofs.Common.{◌≡◌, ℕ, zero, suc, ◌+◌, ◌<◌, ◌≤◌, List, [], ◌∷◌, ◌++◌, length, get_or, take, drop, sym, refl, ap, ◌∙◌, subst, append_assoc, arith}
+use Rattle.std.proofs.Common.{◌≡◌, ℕ, suc, ◌+◌, ◌≤◌, List, [], ◌∷◌, ◌++◌, length, get_or, take, drop, sym, refl, ap, ◌∙◌, subst, append_assoc}
 use Rattle.std.proofs.lemmas.List.{drop_all, drop_more, take_more, take-append-drop, append_cancel_right}
 use Rattle.grammar.specs.Syntax.{Text, IsText}
 use Rattle.grammar.specs.Parse.{Got, got, bad, parse, read_kinds}

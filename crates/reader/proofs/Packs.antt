@@ -1,7 +1,7 @@
 -- Packed words: they fit 64 bits, and differ where words do.
-use Rattle.std.proofs.Common.{◌≡◌, ℕ, zero, suc, ◌+◌, ◌-◌, ◌*◌, ◌<◌, ◌≤◌, Bool, true, false, cond, ◌&&◌, ◌||◌, eqb, leb, ◌⊎◌, List, [], ◌∷◌, length, get_or, drop, codes, sym, refl, ap, ◌∙◌, subst, inl, inr, arith}
+use Rattle.std.proofs.Common.{◌≡◌, ℕ, zero, suc, ◌+◌, ◌-◌, ◌*◌, ◌<◌, ◌≤◌, Bool, true, false, cond, eqb, leb, ◌⊎◌, List, [], ◌∷◌, length, get_or, drop, codes, sym, refl, ap, ◌∙◌, subst, inl, inr, arith}
 use Rattle.std.proofs.lemmas.List.{drop_more, drop_all, get_or-drop, length-drop}
-use Rattle.std.proofs.lemmas.Bool.{eq-eqb, ne_eqb, eqb-true, eqb-false, both_ways, and_parts, and_from, leb-true, or_cases, cases_eq, cond_both, or_from, or_left, not_from_false, cond-true, cond-false}
+use Rattle.std.proofs.lemmas.Bool.{eqb-true, eqb-false, both_ways, and_parts, and_from, leb-true, or_cases, cond_both, or_from, or_left, not_from_false, cond-true, cond-false}
 use Rattle.grammar.specs.Syntax.{all, same, in_word, is_letter, is_digit}
 use Rattle.grammar.specs.Syntax.{among, reserved, is_word, is_name, is_operand}
 use Rattle.grammar.specs.Parse.{Got, got, bad, read_word, checked}

@@ -1,12 +1,12 @@
 -- Rows of names and numbers, and what stands behind the first word of a kind, a thing or a message.
-use Rattle.std.proofs.Common.{◌≡◌, ℕ, zero, suc, ◌+◌, ◌-◌, ◌<◌, ◌≤◌, Bool, true, false, cond, eqb, List, [], ◌∷◌, length, get_or, drop, Ok, Err, codes, Result, sym, refl, ap, ◌∙◌, arith}
+use Rattle.std.proofs.Common.{◌≡◌, ℕ, zero, suc, ◌+◌, ◌-◌, ◌<◌, ◌≤◌, false, eqb, List, [], ◌∷◌, length, get_or, drop, Result, sym, refl, ap, ◌∙◌, arith}
 use Rattle.std.proofs.lemmas.List.{drop_more, drop_all}
 use Rattle.std.proofs.lemmas.Bool.{eq-eqb, ne_eqb, cond-true, cond-false}
-use Rattle.grammar.specs.Syntax.{newline, Kind, Thing, Note}
-use Rattle.grammar.specs.Parse.{Got, got, bad, and_then, expect, read_name, read_number, read_next, read_upto, read_row, read_lines, read_kind, read_thing, read_note, Block, Close}
-use Rattle.reader.specs.Places.{forget, shape, at_place, span_at, lines_at}
+use Rattle.grammar.specs.Syntax.{newline, Kind, Thing}
+use Rattle.grammar.specs.Parse.{Got, got, bad, and_then, expect, read_name, read_number, read_next, read_upto, read_row, read_lines, read_kind, read_thing, Block, Close}
+use Rattle.reader.specs.Places.{forget, shape, at_place, span_at}
 use Rattle.reader.proofs.Blocks.{rest_is, never_bad, bad_is}
-use Rattle.reader.proofs.Terms.{went_on, stopped, forget_unit, forget_span, literal_first, literal_then}
+use Rattle.reader.proofs.Terms.{went_on, stopped, forget_span}
 
 -- The next of a row, at a place: one reads an item, go the others.
 module _ (one : List ℕ → Got (List ℕ)) (go : List ℕ → Got (List (List ℕ))) (bs : List ℕ) (at : ℕ) where

@@ -1,10 +1,10 @@
 -- Expressions: one thing read after the other, by where each ends.
-use Rattle.std.proofs.Common.{◌≡◌, ℕ, zero, suc, ◌+◌, ◌-◌, ◌<◌, ◌≤◌, Bool, true, false, cond, eqb, ◌⊎◌, List, [], ◌∷◌, length, get_or, drop, Ok, Err, codes, Result, sym, refl, ap, ◌∙◌, subst, inl, inr, sub-one, arith}
+use Rattle.std.proofs.Common.{◌≡◌, ℕ, zero, suc, ◌+◌, ◌-◌, ◌<◌, ◌≤◌, Bool, true, false, cond, eqb, ◌⊎◌, List, ◌∷◌, length, get_or, drop, Ok, Err, codes, Result, sym, refl, ap, ◌∙◌, inl, inr, sub-one, arith}
 use Rattle.std.proofs.lemmas.List.{drop_more, drop_all}
 use Rattle.std.proofs.lemmas.Bool.{eq-eqb, ne_eqb, cond-true, cond-false}
 use Rattle.grammar.specs.Syntax.{Term, Sign, plus, minus, times, over, remains, less, equal, is_letter, is_operand, newline}
 use Rattle.grammar.specs.Parse.{Got, got, bad, and_then, expect, checked, read_word, read_number, read_sign, read_plain, read_two, read_term, read_expr, read_last}
-use Rattle.reader.specs.Places.{forget, at_place, span_at, is_sign, read_head, read_sent}
+use Rattle.reader.specs.Places.{forget, at_place, span_at, is_sign, read_sent}
 
 same_rest : {A : Type 0} (a b : A) (k c : List ℕ) → got a k ≡ got b c → k ≡ c
 same_rest a b k c e = cc

@@ -1,11 +1,10 @@
 -- What reading from a place in lent bytes answers: where it goes on, or the first byte at which no text goes on so.
-use Rattle.std.specs.Prelude.{◌≡◌, ℕ, ◌-◌, ◌≤◌, Bool, true, false, cond, List, [], ◌∷◌, length, take, drop, Ok, Err, codes, Result, ◌==◌}
+use Rattle.std.specs.Prelude.{ℕ, ◌-◌, Bool, true, false, cond, List, [], ◌∷◌, take, drop, Ok, Err, codes, Result, ◌==◌}
 use Rattle.reader.specs.declared.Word.{Word}
 use Rattle.reader.specs.declared.Word.TheVariants.{Kind, Say, Send, To, After, If, Else, End, Again, Thing, Message, Draw, It, Me, Now, Name}
 use Rattle.grammar.specs.Syntax.{Term, newline, is_letter, is_operand, same}
 use Rattle.reader.specs.declared.Closed.{Closed}
 use Rattle.reader.specs.declared.Closing.{Closing}
-use Rattle.reader.specs.declared.Closing.TheVariants as Closing
 use Rattle.grammar.specs.Parse.{Close, by_end, by_else, Block, Got, got, bad, and_then, expect, read_word, read_expr, read_last}
 
 -- What was read is left out.

@@ -1,5 +1,7 @@
 // Whether bytes have the form of a text: each function answers where what it reads ends, or the first byte at which no text goes on so.
 // The recursion goes as deep as lines and parentheses do; what reads a file asks first that no line is longer than a text's lines may be.
+#![tactic(auto)]
+
 ghost use Rattle.std.specs.Prelude.{◌≡◌, ℕ, ◌+◌, ◌<◌, ◌≤◌, length, drop, IfOk, MatchResult};
 ghost use Rattle.grammar.specs.Parse.{expect, read_word, read_number, read_name, checked, read_sign, read_plain, read_term, read_expr, read_last, read_lines, read_upto, read_row, read_kind, read_thing, read_note, read_notes, read_things, read_kinds};
 ghost use Rattle.grammar.specs.Syntax.{Text, IsText, is_letter, is_digit, in_word, is_operand};

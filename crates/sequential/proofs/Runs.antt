@@ -1,13 +1,13 @@
 -- A run in lent memory, step by step.
-use Rattle.std.proofs.Common.{◌≡◌, ℕ, zero, suc, ◌+◌, ◌*◌, ◌<◌, ◌≤◌, Bool, true, false, ◌&&◌, leb, ◌⊎◌, List, map, length, Some, None, MatchBool, sym, refl, ap, ◌∙◌, subst, inl, inr, arith, below_none, below_more}
+use Rattle.std.proofs.Common.{◌≡◌, ℕ, ◌+◌, ◌*◌, ◌<◌, Bool, true, false, leb, List, map, length, Some, None, MatchBool, sym, refl, ap, ◌∙◌, inl, inr, arith, below_more}
 use Rattle.std.proofs.lemmas.Bool.{and_parts, and_from, leb-true, le-leb}
 use Rattle.meaning.specs.declared.Message.{Message}
-use Rattle.meaning.specs.Model.{Model, State, step, steps}
+use Rattle.meaning.specs.Model.{step, steps}
 use Rattle.meaning.proofs.Runs.{steps_add}
 use Rattle.sequential.specs.declared.Report.{Report}
 use Rattle.sequential.specs.declared.Outcome.{Outcome}
 use Rattle.sequential.specs.declared.Outcome.TheVariants.{Paused, Short}
-use Rattle.sequential.specs.Memory.{Memory, state_of, model_of, shaped, Shaped, stops, Stepped, Ran, RunIn, NotRun}
+use Rattle.sequential.specs.Memory.{Memory, state_of, model_of, shaped, Shaped, stops, Stepped, RunIn, NotRun}
 
 pub shaped_facts : (y : Memory) (n : ℕ) → shaped y n ≡ true → Shaped y n
 shaped_facts y n h =

@@ -1,12 +1,10 @@
 -- The start of a run in lent memory.
-use Rattle.std.proofs.Common.{◌≡◌, ℕ, zero, suc, ◌+◌, ◌-◌, ◌<◌, ◌≤◌, min, List, [], ◌∷◌, ◌++◌, map, length, get_or, take, drop, set, Ok, Err, Result, sym, refl, ap, ◌∙◌, subst, ap₂, append_assoc, add-one, arith, MatchResult}
+use Rattle.std.proofs.Common.{◌≡◌, ℕ, suc, ◌+◌, ◌<◌, ◌≤◌, min, List, [], ◌∷◌, ◌++◌, map, length, get_or, take, drop, set, Ok, Err, Result, sym, refl, ap, ◌∙◌, ap₂, append_assoc, arith, MatchResult}
 use Rattle.std.proofs.lemmas.List.{drop_more, drop-set-lt, take_more_set, take_all, drop_all, append-nil}
 use Rattle.meaning.specs.declared.Message.{Message}
-use Rattle.meaning.specs.declared.Line.{Line}
-use Rattle.meaning.specs.Model.{next_seed, initial, start, insert_all}
+use Rattle.meaning.specs.Model.{next_seed, initial, start}
 use Rattle.body.specs.declared.Process.{Process}
-use Rattle.queue.specs.Row.{waiting, InsertedAll, Refused}
-use Rattle.sequential.specs.declared.Progress.{Progress}
+use Rattle.queue.specs.Row.{InsertedAll, Refused}
 use Rattle.sequential.specs.Memory.{actors, started, numbers_of, Begun}
 use Rattle.sequential.proofs.Stored.{absent}
 

@@ -1,7 +1,7 @@
 -- One step in lent memory is one step of the meaning, and a run stops in lent memory where it says.
-use Rattle.std.proofs.Common.{◌≡◌, ℕ, zero, suc, ◌+◌, ◌-◌, ◌*◌, ◌<◌, ◌≤◌, min, Bool, true, false, cond, eqb, ltb, List, [], ◌∷◌, ◌++◌, map, length, take, drop, Some, None, Ok, Err, Option, Result, sym, refl, ap, ◌∙◌, subst, ap₂, append_assoc, arith, MatchResult}
+use Rattle.std.proofs.Common.{◌≡◌, ℕ, ◌+◌, ◌-◌, ◌<◌, ◌≤◌, Bool, true, false, cond, eqb, ltb, List, [], ◌∷◌, ◌++◌, length, take, drop, Some, None, Ok, Err, Option, Result, sym, refl, ap, ◌∙◌, subst, ap₂, append_assoc, arith, MatchResult}
 use borrow.Rule.Slice.PartMut.{put_mid}
-use Rattle.std.proofs.lemmas.List.{length-append, length-take, length-take-le, length-drop, length-reverse, length-map, take_at}
+use Rattle.std.proofs.lemmas.List.{length-append, length-take-le, length-drop, length-reverse, take_at}
 use Rattle.std.proofs.lemmas.Bool.{lt-ltb, le-ltb, ltb-true, ltb-false, cond-true, cond-false}
 use Rattle.meaning.specs.declared.Message.{Message}
 use Rattle.meaning.specs.declared.Line.{Line}
@@ -10,13 +10,11 @@ use Rattle.meaning.specs.Model as meaning
 use Rattle.body.specs.declared.Process.{Process}
 use Rattle.body.specs.declared.Counts.{Counts}
 use Rattle.body.specs.declared.Refusal.{Refusal}
-use Rattle.body.specs.declared.Refusal.TheVariants as Refusal
 use Rattle.body.specs.Play.{top, answer, filled}
 use Rattle.queue.specs.Row.{waiting, InsertedAll, Refused}
-use Rattle.sequential.specs.declared.Progress.{Progress}
 use Rattle.sequential.specs.declared.Outcome.{Outcome}
-use Rattle.sequential.specs.declared.Outcome.TheVariants.{Ended, Paused, Waiting, Lines, Count, Short}
-use Rattle.sequential.specs.Memory.{actors, model_of, done_in, Did, Memory, state_of, Shaped, refuses, stops_at, stops, outcome_of, Stepped}
+use Rattle.sequential.specs.declared.Outcome.TheVariants.{Ended, Paused, Waiting, Lines, Count}
+use Rattle.sequential.specs.Memory.{model_of, done_in, Did, Memory, state_of, Shaped, refuses, stops_at, stops, outcome_of, Stepped}
 
 -- Where the pending messages are known.
 stops_by : (m : Model) (end R L : ℕ) (s : State) (w : List Message) → s.pending ≡ w → stops_at m end R L s w ≡ stops m end R L s

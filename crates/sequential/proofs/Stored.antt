@@ -1,9 +1,9 @@
 -- Processes in lent memory: what one of them is, and what handling a message makes of all.
-use Rattle.std.proofs.Common.{◌≡◌, ℕ, zero, suc, ◌+◌, ◌-◌, ◌*◌, ◌<◌, ◌≤◌, min, Bool, true, false, cond, ltb, List, [], ◌∷◌, ◌++◌, map, length, get_or, take, drop, set, Ok, Err, Result, sym, refl, ap, ◌∙◌, subst, ap₂, arith, MatchResult}
+use Rattle.std.proofs.Common.{◌≡◌, ℕ, zero, suc, ◌+◌, ◌*◌, ◌<◌, ◌≤◌, min, Bool, true, false, ltb, List, [], ◌∷◌, ◌++◌, map, length, get_or, take, drop, set, Ok, Err, Result, sym, refl, ap, ◌∙◌, ap₂, arith, MatchResult}
 use borrow.Rule.Slice.PartMut.{put_mid}
-use Rattle.std.proofs.lemmas.List.{get_or_past, get_or-map, get_or_default, length-map, length-set, length-take, drop-drop, map-set, set-get_or, set_past, take_at, take_all, length-drop, drop-append-le, drop-take, take-append-drop}
+use Rattle.std.proofs.lemmas.List.{get_or_past, get_or-map, length-map, length-take, drop-drop, map-set, set-get_or, set_past, take_at, length-drop, drop-append-le, drop-take, take-append-drop}
 use Rattle.std.proofs.lemmas.Slice.{take-put_mid_below, drop-append-drop}
-use Rattle.std.proofs.lemmas.Bool.{lt-ltb, le-ltb, ltb-true, ltb-false, cond-true, cond-false}
+use Rattle.std.proofs.lemmas.Bool.{ltb-true, ltb-false, cond-true, cond-false}
 use Rattle.meaning.specs.declared.Message.{Message}
 use Rattle.meaning.specs.declared.Line.{Line}
 use Rattle.meaning.specs.Model.{Model, Done, stop, exec, handle, handle_in, handled_in, nobody}
@@ -13,7 +13,7 @@ use Rattle.body.specs.declared.Counts.{Counts}
 use Rattle.body.specs.declared.Refusal.{Refusal}
 use Rattle.body.specs.Code.{body_of}
 use Rattle.body.specs.Play.{does, does_at, answer, Lent, lent_after, filled}
-use Rattle.sequential.specs.Memory.{actor, actors, code_of, body_from, model_of, done_in, Did, Untouched}
+use Rattle.sequential.specs.Memory.{actor, actors, code_of, body_from, done_in, Did, Untouched}
 
 abbrev pub absent : Process
 absent = record { kind = 0; width = 0; seed = 0; sent = 0 }

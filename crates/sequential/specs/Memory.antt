@@ -1,19 +1,17 @@
 -- What lent memory stands for: a model, and a state of its run; and when a run in lent memory stops.
-use Rattle.std.specs.Prelude.{◌≡◌, ℕ, zero, suc, ◌+◌, ◌-◌, ◌*◌, ◌<◌, ◌≤◌, min, Bool, true, cond, ◌&&◌, ◌⊎◌, List, [], ◌∷◌, ◌++◌, map, length, take, drop, Some, None, Option, ◌==◌, nat_le, nat_lt, slice_index}
+use Rattle.std.specs.Prelude.{◌≡◌, ℕ, suc, ◌+◌, ◌*◌, ◌<◌, ◌≤◌, min, Bool, true, cond, ◌&&◌, ◌⊎◌, List, [], ◌∷◌, map, length, take, drop, Some, None, Option, ◌==◌, nat_le, nat_lt, slice_index}
 use Rattle.meaning.specs.declared.Message.{Message}
 use Rattle.meaning.specs.declared.Line.{Line}
 use Rattle.meaning.specs.Model.{Model, Body, Done, State, Process as Actor, handle_in, handled_in, step, steps, start, next_seed}
 use Rattle.meaning.specs.Promise.{Proper, Outside, Sorted}
 use Rattle.body.specs.declared.Process.{Process}
 use Rattle.body.specs.declared.Refusal.{Refusal}
-use Rattle.body.specs.declared.Refusal.TheVariants as Refusal
 use Rattle.body.specs.Code.{body_of}
 use Rattle.body.specs.Play.{top, filled}
 use Rattle.queue.specs.Row.{waiting}
 use Rattle.sequential.specs.declared.Progress.{Progress}
 use Rattle.sequential.specs.declared.Report.{Report}
 use Rattle.sequential.specs.declared.Unready.{Unready}
-use Rattle.sequential.specs.declared.Unready.TheVariants as Unready
 use Rattle.sequential.specs.declared.Outcome.{Outcome}
 use Rattle.sequential.specs.declared.Outcome.TheVariants.{Ended, Paused, Waiting, Lines, Count, Short}
 

@@ -1,4 +1,6 @@
 // The meaning as a program: a step, and a run with a budget, over lent slices.
+#![tactic(auto)]
+
 ghost use Rattle.std.specs.Prelude.{◌≡◌, ℕ, ◌*◌, ◌<◌, ◌≤◌, min, List, length, MatchBool, MatchOption, MatchResult};
 ghost use Rattle.body.specs.Play.{answer};
 ghost use Rattle.sequential.specs.Memory.{RowInOrder, Begun, Unbegun, unready, started, code_of, done_in, Did, Untouched, Memory, memory, Shaped, Stepped, RunIn, NotRun, model_of, state_of, shaped, stops, outcome_of};

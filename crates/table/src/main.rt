@@ -1,4 +1,6 @@
 // table: tries the reader on texts whose answers were written by hand, writes those that are taken anew, and plays the worked models.
+#![tactic(auto)]
+
 mod cases;
 
 use anyhow::anyhow;

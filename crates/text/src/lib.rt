@@ -1,4 +1,6 @@
 // Texts and the lent slices that a model is played from.
+#![tactic(auto)]
+
 ghost use Rattle.text.specs.Promise.{DigitsRead, FilledHolds};
 
 pub mod laws;

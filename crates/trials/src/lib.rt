@@ -1,4 +1,6 @@
 // Runs of small models against the edges of the language: depth, turns of a repeat, full places, late times, many variables.
+#![tactic(auto)]
+
 #[cfg(test)]
 mod tests {
     use body::Process;

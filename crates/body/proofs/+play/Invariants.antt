@@ -1,4 +1,4 @@
-use Rattle.std.proofs.Common.{◌≡◌, ℕ, ◌-◌, ◌≤◌, min}
+use Rattle.std.proofs.Common.{◌≡◌, ◌-◌, ◌≤◌}
 use Rattle.meaning.specs.Model.{iterate}
 use Rattle.body.specs.Code.{body_of}
 use Rattle.body.specs.Play.{room, plays}
@@ -18,5 +18,5 @@ decreases-loop-fuel l = l.fuel
 
 abbrev pub invariant-loop-turn : goal.invariant-loop-turn
 invariant-loop-turn l =
-    iterate (l.turns - l.-turn) (plays l.event (body_of l.fuel l.body)) (room l.vars l.tally l.sends l.lines)
+    iterate (l.turns - l._turn) (plays l.event (body_of l.fuel l.body)) (room l.vars l.tally l.sends l.lines)
     ≡ iterate l.turns (plays l.event (body_of l.fuel l.body)) (room l.initial.vars l.initial.tally l.initial.sends l.initial.lines)

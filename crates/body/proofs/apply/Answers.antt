@@ -1,4 +1,3 @@
-use Rattle.body.specs.Code.{binary_result}
 use Rattle.body.proofs.Words.{wraps}
 use Rattle.body.proofs.apply.Goals as goal
 

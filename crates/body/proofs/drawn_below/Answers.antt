@@ -1,6 +1,6 @@
 use Rattle.meaning.specs.Model.{drawn}
 use Rattle.std.proofs.lemmas.Bool.{eq-eqb, ne_eqb, cond-true, cond-false}
-use Rattle.std.proofs.Common.{sym, refl}
+use Rattle.std.proofs.Common.{sym}
 use Rattle.body.proofs.drawn_below.Goals as goal
 
 pub returns-then-n-eq0 : goal.returns-then-n-eq0

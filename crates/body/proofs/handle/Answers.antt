@@ -1,7 +1,5 @@
-use Rattle.std.proofs.Common.{◌≡◌, ℕ, ◌+◌, ◌-◌, ◌<◌, ◌≤◌, min, length, sym, refl, ap, ◌∙◌, subst, arith}
-use Rattle.meaning.specs.Model.{Done}
-use Rattle.body.specs.declared.Event.{Event}
-use Rattle.body.specs.Play.{Room, room, top, does, does_at, tally_of, Lent}
+use Rattle.std.proofs.Common.{◌-◌, ◌<◌, ◌≤◌, length, refl, subst, arith}
+use Rattle.body.specs.Play.{room, top, does}
 use Rattle.body.proofs.Events.{does_sent, refuses_count, kept}
 use Rattle.body.proofs.handle.Goals as goal
 
@@ -17,8 +15,8 @@ returns-then-need-process c =
       holds = refl;
     }
 
-pub overflow-add-process : goal.overflow-add-process
-overflow-add-process c =
+pub overflow_add-process : goal.overflow_add-process
+overflow_add-process c =
     let k =
     kept (record { it = c.args.m.number; me = c.args.m.to; clock = c.args.m.time; processes = c.args.processes; sent = c.args.process.now.sent })
     c.args.code.now c.args.process.now.seed c.args.vars.now c.args.sends.now c.args.lines.now

@@ -1,4 +1,4 @@
-use Rattle.std.proofs.Common.{◌≡◌, [], length, ap, ◌∙◌, arith}
+use Rattle.std.proofs.Common.{[], length, ap, ◌∙◌, arith}
 use Rattle.body.specs.declared.Tally.{Tally}
 use Rattle.body.specs.Code.{body_of}
 use Rattle.body.specs.Play.{Room, room, plays}
@@ -16,4 +16,4 @@ returns c =
     (room c.play.new.vars c.play.new.tally c.play.new.sends c.play.new.lines)
     (c.play.ensures
     ∙ ap (λ v. plays c.args.event (body_of (length c.args.code.now) c.args.code.now) (room v (record { seed = c.args.seed; sends = 0; lines = 0 }) [] []))
-    c.copy-from-slice.ensures.after))
+    c.copy_from_slice.ensures.after))

@@ -1,4 +1,3 @@
-use Rattle.std.proofs.Common.{arith}
 use Rattle.checker.proofs.Limits.{stays, gives_way}
 use Rattle.checker.proofs.cut_off.Goals as goal
 

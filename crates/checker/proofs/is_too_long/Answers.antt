@@ -1,5 +1,5 @@
-use Rattle.std.proofs.Common.{◌≡◌, ◌+◌, ◌-◌, take, drop, refl, ap, ◌∙◌, arith}
-use Rattle.checker.proofs.Limits.{one_line, short_enough, ends_here, goes_on_here, no_end, at_line}
+use Rattle.std.proofs.Common.{refl}
+use Rattle.checker.proofs.Limits.{short_enough, ends_here, goes_on_here, no_end, at_line}
 use Rattle.checker.proofs.is_too_long.Goals as goal
 
 pub returns-then-bytes-at-le-LINE : goal.returns-then-bytes-at-le-LINE

@@ -11,7 +11,7 @@ returns-then-n-ge4294967296 c =
 
 pub loop-d-preserved : goal.loop-d-preserved
 loop-d-preserved c =
-    let e : c.saturating-sub.result ≡ get_or c.args.digits.now c.loop-d.d-index 0 - 48 = search rules in (
+    let e : c.saturating_sub.result ≡ get_or c.args.digits.now c.loop-d.d-index 0 - 48 = search rules in (
       ap (λ x. decimal (c.loop-d.n * 10 + x) (drop (c.loop-d.d-index + 1) c.args.digits.now)) e ∙ sym (decimal_more c.loop-d.n c.args.digits.now c.loop-d.d-index (omega arith)) ∙ c.loop-d.invariant.0,
       omega arith,
     )

@@ -1,22 +1,21 @@
-use Rattle.std.proofs.Common.{◌≡◌, ℕ, ◌+◌, ◌-◌, ◌*◌, ◌<◌, get_or, drop, sym, ap, ◌∙◌, arith}
-use Rattle.checker.specs.Words.{pack}
+use Rattle.std.proofs.Common.{◌+◌, ◌-◌, ◌*◌, get_or, sym, ap, ◌∙◌, arith}
 use Rattle.checker.proofs.Packs.{pack_more, pack_fits, pack_none}
 use Rattle.checker.proofs.packed.Goals as goal
 
 pub loop-k-init : goal.loop-k-init
 loop-k-init c = (sym (pack_none c.args.word.now), omega arith)
 
-pub overflow-mul-p : goal.overflow-mul-p
-overflow-mul-p c =
+pub overflow_mul-p : goal.overflow_mul-p
+overflow_mul-p c =
     let m = pack_more c.args.word.now c.loop-k.k c.loop-k-test.true c.loop-k.invariant.1 in
-    let f = pack_fits c.args.word.now (c.loop-k.k - 1) c.requires (λ i. omega (arith, c.type-inv.word i)) in
+    let f = pack_fits c.args.word.now (c.loop-k.k - 1) c.requires (λ i. omega (arith, c.type_inv.word i)) in
     let p = c.loop-k.invariant.0 in
     omega (arith, m, f, p)
 
-pub overflow-add-p : goal.overflow-add-p
-overflow-add-p c =
+pub overflow_add-p : goal.overflow_add-p
+overflow_add-p c =
     let m = pack_more c.args.word.now c.loop-k.k c.loop-k-test.true c.loop-k.invariant.1 in
-    let f = pack_fits c.args.word.now (c.loop-k.k - 1) c.requires (λ i. omega (arith, c.type-inv.word i)) in
+    let f = pack_fits c.args.word.now (c.loop-k.k - 1) c.requires (λ i. omega (arith, c.type_inv.word i)) in
     let p = c.loop-k.invariant.0 in
     omega (arith, m, f, p)
 

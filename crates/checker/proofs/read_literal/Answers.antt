@@ -1,4 +1,4 @@
-use Rattle.std.proofs.Common.{◌≡◌, sym, ◌∙◌, arith}
+use Rattle.std.proofs.Common.{sym, ◌∙◌, arith}
 use Rattle.checker.proofs.Spans.{expect_more, expect_other, expect_short, expect_done}
 use Rattle.checker.proofs.read_literal.Goals as goal
 

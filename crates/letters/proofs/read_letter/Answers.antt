@@ -18,8 +18,8 @@ pub returns-in-Some : goal.returns-in-Some
 returns-in-Some c =
     let bs = c.args.bytes.now in (
       c.if-to-bytes.false,
-      read_so (part bs c.args.from c.args.to) (part_bytes bs c.args.from (c.args.to - c.args.from) (λ i. omega (arith, c.type-inv.bytes i))) c.in-Some.letter (sym c.read-whole.ensures ∙ c.in-Some.is),
+      read_so (part bs c.args.from c.args.to) (part_bytes bs c.args.from (c.args.to - c.args.from) (λ i. omega (arith, c.type_inv.bytes i))) c.in-Some.letter (sym c.read_whole.ensures ∙ c.in-Some.is),
     )
 
 pub returns-in-None : goal.returns-in-None
-returns-in-None c = (refl, λ h l d i. no_such _ (sym c.in-None.is ∙ c.read-whole.ensures) l d i)
+returns-in-None c = (refl, λ h l d i. no_such _ (sym c.in-None.is ∙ c.read_whole.ensures) l d i)

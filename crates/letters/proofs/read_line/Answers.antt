@@ -11,11 +11,11 @@ returns c =
     let z : at + 16 - at ≡ 16 = omega arith in
     let cut : (i k : ℕ) → number_at (take (at + 16 - at) (drop at bs)) i k ≡ number_at (take 16 (drop at bs)) i k =
     λ i k. ap (λ n. number_at (take n (drop at bs)) i k) z in
-    let e0 = c.read-number.ensures.reads ∙ cut 0 8 in
-    let e8 = c.read-number-2.ensures.reads ∙ cut 8 4 in
-    let e12 = c.read-number-3.ensures.reads ∙ cut 12 4 in
+    let e0 = c.read_number.ensures.reads ∙ cut 0 8 in
+    let e8 = c.read_number-2.ensures.reads ∙ cut 8 4 in
+    let e12 = c.read_number-3.ensures.reads ∙ cut 12 4 in
     let e : ◌≡◌ {A = Line} _ (line_of (take 16 (drop at bs))) = λ i. record { time = e0 i; process = e8 i; number = e12 i } in
     record {
       reads = e;
-      exact = ap line_bytes e ∙ line_exact (take 16 (drop at bs)) (part_bytes bs at 16 (λ i. omega (arith, c.type-inv.bytes i))) (part_length bs at 16 c.requires);
+      exact = ap line_bytes e ∙ line_exact (take 16 (drop at bs)) (part_bytes bs at 16 (λ i. omega (arith, c.type_inv.bytes i))) (part_length bs at 16 c.requires);
     }

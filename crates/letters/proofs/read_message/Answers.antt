@@ -11,13 +11,13 @@ returns c =
     let z : at + 28 - at ≡ 28 = omega arith in
     let cut : (i k : ℕ) → number_at (take (at + 28 - at) (drop at bs)) i k ≡ number_at (take 28 (drop at bs)) i k =
     λ i k. ap (λ n. number_at (take n (drop at bs)) i k) z in
-    let e0 = c.read-number.ensures.reads ∙ cut 0 8 in
-    let e8 = c.read-number-2.ensures.reads ∙ cut 8 4 in
-    let e12 = c.read-number-3.ensures.reads ∙ cut 12 4 in
-    let e16 = c.read-number-4.ensures.reads ∙ cut 16 8 in
-    let e24 = c.read-number-5.ensures.reads ∙ cut 24 4 in
+    let e0 = c.read_number.ensures.reads ∙ cut 0 8 in
+    let e8 = c.read_number-2.ensures.reads ∙ cut 8 4 in
+    let e12 = c.read_number-3.ensures.reads ∙ cut 12 4 in
+    let e16 = c.read_number-4.ensures.reads ∙ cut 16 8 in
+    let e24 = c.read_number-5.ensures.reads ∙ cut 24 4 in
     let e : ◌≡◌ {A = Message} _ (message_of (take 28 (drop at bs))) = λ i. record { time = e0 i; to = e8 i; from = e12 i; count = e16 i; number = e24 i } in
     record {
       reads = e;
-      exact = ap message_bytes e ∙ message_exact (take 28 (drop at bs)) (part_bytes bs at 28 (λ i. omega (arith, c.type-inv.bytes i))) (part_length bs at 28 c.requires);
+      exact = ap message_bytes e ∙ message_exact (take 28 (drop at bs)) (part_bytes bs at 28 (λ i. omega (arith, c.type_inv.bytes i))) (part_length bs at 28 c.requires);
     }

@@ -6,17 +6,17 @@ use Rattle.letters.proofs.read_number.Goals as goal
 pub loop-k-init : goal.loop-k-init
 loop-k-init c = (sym (read_none c.args.bytes.now c.args.at c.args.width c.requires.inside), omega arith, nothing_yet c.args.width)
 
-pub overflow-mul-n : goal.overflow-mul-n
-overflow-mul-n c =
+pub overflow_mul-n : goal.overflow_mul-n
+overflow_mul-n c =
     let m = read_more c.args.bytes.now c.args.at c.args.width c.requires.inside c.loop-k.k c.loop-k-test.true c.loop-k.invariant.1 in
-    let f = read_fits c.args.bytes.now c.args.at c.args.width c.requires.inside (λ i. omega (arith, c.type-inv.bytes i)) c.requires.short (c.loop-k.k - 1) in
+    let f = read_fits c.args.bytes.now c.args.at c.args.width c.requires.inside (λ i. omega (arith, c.type_inv.bytes i)) c.requires.short (c.loop-k.k - 1) in
     let p = c.loop-k.invariant.0 in
     omega (arith, m, f, p)
 
-pub overflow-add-n : goal.overflow-add-n
-overflow-add-n c =
+pub overflow_add-n : goal.overflow_add-n
+overflow_add-n c =
     let m = read_more c.args.bytes.now c.args.at c.args.width c.requires.inside c.loop-k.k c.loop-k-test.true c.loop-k.invariant.1 in
-    let f = read_fits c.args.bytes.now c.args.at c.args.width c.requires.inside (λ i. omega (arith, c.type-inv.bytes i)) c.requires.short (c.loop-k.k - 1) in
+    let f = read_fits c.args.bytes.now c.args.at c.args.width c.requires.inside (λ i. omega (arith, c.type_inv.bytes i)) c.requires.short (c.loop-k.k - 1) in
     let p = c.loop-k.invariant.0 in
     omega (arith, m, f, p)
 
@@ -25,7 +25,7 @@ loop-k-preserved c = (
   ap (λ q. q * 256 + get_or c.args.bytes.now (c.args.at + (c.loop-k.k - 1)) 0) c.loop-k.invariant.0
       ∙ sym (read_more c.args.bytes.now c.args.at c.args.width c.requires.inside c.loop-k.k c.loop-k-test.true c.loop-k.invariant.1),
   omega arith,
-  one_more c.args.width c.loop-k.k c.loop-k.n _ c.loop-k-test.true c.loop-k.invariant.1 (omega (arith, c.type-inv.bytes (c.args.at + (c.loop-k.k - 1)))) c.loop-k.invariant.2,
+  one_more c.args.width c.loop-k.k c.loop-k.n _ c.loop-k-test.true c.loop-k.invariant.1 (omega (arith, c.type_inv.bytes (c.args.at + (c.loop-k.k - 1)))) c.loop-k.invariant.2,
 )
 
 pub returns : goal.returns

@@ -18,6 +18,6 @@ pub returns-in-3 : goal.returns-in-3
 unfolding letter_of
 returns-in-3 c = search rules
 
-pub returns-in-default : goal.returns-in-default
+pub returns-in_default : goal.returns-in_default
 unfolding letter_of
-returns-in-default c = search rules
+returns-in_default c = search rules

@@ -13,11 +13,11 @@ returns-in-Tell c =
     let at = c.args.at in
     let t = c.in-Tell in
     let h : at + 36 ≤ length o = omega (arith, c.requires, ap head t.is) in
-    let a : Written o at 10 (1 ∷ t.from ∷ little t.epoch 8) c.write-start.new.out =
-    record { is = c.write-start.ensures; long = ap (λ n. suc (suc n)) (length_little t.epoch 8) } in
-    let b = and_number c.write-number.new.out t.earliest 8 a (omega arith) c.write-number.ensures in
-    let d = and_number c.write-number-in-Tell.new.out t.heard 8 b (omega arith) c.write-number-in-Tell.ensures in
-    let e = and_number c.write-number-in-Tell-2.new.out t.start 8 d (omega arith) c.write-number-in-Tell-2.ensures in
+    let a : Written o at 10 (1 ∷ t.from ∷ little t.epoch 8) c.write_start.new.out =
+    record { is = c.write_start.ensures; long = ap (λ n. suc (suc n)) (length_little t.epoch 8) } in
+    let b = and_number c.write_number.new.out t.earliest 8 a (omega arith) c.write_number.ensures in
+    let d = and_number c.write_number-in-Tell.new.out t.heard 8 b (omega arith) c.write_number-in-Tell.ensures in
+    let e = and_number c.write_number-in-Tell-2.new.out t.start 8 d (omega arith) c.write_number-in-Tell-2.ensures in
     let f = and_byte (bool_byte t.finished) e (omega arith) in
     let g = and_byte t.count f (omega arith) in
     g.is ∙ ap (put o at) (tell_head t.from t.epoch t.earliest t.heard t.start t.finished t.count) ∙ ap (λ l. put o at (head_bytes l)) (sym t.is)
@@ -29,14 +29,14 @@ returns-in-Lines c =
     let at = c.args.at in
     let t = c.in-Lines in
     let h : at + 23 ≤ length o = omega (arith, c.requires, ap head t.is) in
-    let a : Written o at 10 (2 ∷ t.from ∷ little t.first 8) c.write-start-in-Lines.new.out =
-    record { is = c.write-start-in-Lines.ensures; long = ap (λ n. suc (suc n)) (length_little t.first 8) } in
-    let b = and_number c.write-number-in-Lines.new.out t.time 8 a (omega arith) c.write-number-in-Lines.ensures in
-    let d = and_number c.write-number-in-Lines-2.new.out t.process 4 b (omega arith) c.write-number-in-Lines-2.ensures in
+    let a : Written o at 10 (2 ∷ t.from ∷ little t.first 8) c.write_start-in-Lines.new.out =
+    record { is = c.write_start-in-Lines.ensures; long = ap (λ n. suc (suc n)) (length_little t.first 8) } in
+    let b = and_number c.write_number-in-Lines.new.out t.time 8 a (omega arith) c.write_number-in-Lines.ensures in
+    let d = and_number c.write_number-in-Lines-2.new.out t.process 4 b (omega arith) c.write_number-in-Lines-2.ensures in
     let f = and_byte t.count d (omega arith) in
     f.is ∙ ap (put o at) (lines_head t.from t.first t.time t.process t.count) ∙ ap (λ l. put o at (head_bytes l)) (sym t.is)
 
 pub returns-in-Printed : goal.returns-in-Printed
 unfolding head_bytes
 returns-in-Printed c =
-    c.write-start-in-Printed.ensures ∙ ap (λ l. put c.args.out.now c.args.at (head_bytes l)) (sym c.in-Printed.is)
+    c.write_start-in-Printed.ensures ∙ ap (λ l. put c.args.out.now c.args.at (head_bytes l)) (sym c.in-Printed.is)

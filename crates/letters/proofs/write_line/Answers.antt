@@ -10,8 +10,8 @@ unfolding line_bytes
 returns c =
     let h = c.requires in
     let l = c.args.line in
-    let a : Written c.args.out.now c.args.at 8 (little l.time 8) c.write-number.new.out =
-    record { is = c.write-number.ensures; long = length_little l.time 8 } in
-    let b = and_number c.write-number-2.new.out l.process 4 a (omega arith) c.write-number-2.ensures in
-    let d = and_number c.write-number-3.new.out l.number 4 b (omega arith) c.write-number-3.ensures in
+    let a : Written c.args.out.now c.args.at 8 (little l.time 8) c.write_number.new.out =
+    record { is = c.write_number.ensures; long = length_little l.time 8 } in
+    let b = and_number c.write_number-2.new.out l.process 4 a (omega arith) c.write_number-2.ensures in
+    let d = and_number c.write_number-3.new.out l.number 4 b (omega arith) c.write_number-3.ensures in
     in_all (line_bytes l) (simp append_assoc) d

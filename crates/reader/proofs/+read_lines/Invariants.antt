@@ -1,4 +1,4 @@
 use Rattle.reader.proofs.+read_lines.Given as goal
 
-abbrev pub decreases-read-lines : goal.decreases-read-lines
-decreases-read-lines l = l.most
+abbrev pub decreases-read_lines : goal.decreases-read_lines
+decreases-read_lines l = l.most

@@ -1,4 +1,4 @@
 use Rattle.reader.proofs.+read_names.Given as goal
 
-abbrev pub decreases-read-names : goal.decreases-read-names
-decreases-read-names l = l.most
+abbrev pub decreases-read_names : goal.decreases-read_names
+decreases-read_names l = l.most

@@ -1,4 +1,4 @@
-use Rattle.std.proofs.Common.{◌≡◌, ℕ, ◌+◌, ◌-◌, drop, sym, refl, ap, ◌∙◌, inl, inr}
+use Rattle.std.proofs.Common.{◌+◌, ◌-◌, drop, ap, ◌∙◌, inl, inr}
 use Rattle.std.proofs.lemmas.Result.{err_from_is_err_and}
 use Rattle.grammar.specs.Parse.{read_term}
 use Rattle.reader.specs.Places.{forget, at_place}
@@ -18,58 +18,58 @@ returns-then-depth-eq0 t c =
 pub returns-then-bytes-at-ne40 : goal.returns-then-bytes-at-ne40
 returns-then-bytes-at-ne40 t c =
     record {
-      answers = ap (λ g. forget g) (term_plain c.args.depth c.args.bytes.now c.args.at c.if-depth-eq0.false c.if-at-bytes.false c.if-bytes-at-ne40.true) ∙ c.read-plain.ensures.answers;
-      inside = c.read-plain.ensures.inside;
+      answers = ap (λ g. forget g) (term_plain c.args.depth c.args.bytes.now c.args.at c.if-depth-eq0.false c.if-at-bytes.false c.if-bytes-at-ne40.true) ∙ c.read_plain.ensures.answers;
+      inside = c.read_plain.ensures.inside;
     }
 
-pub returns-in-err-first : goal.returns-in-err-first
-returns-in-err-first t c =
-    let p = err_from_is_err_and c.from-residual.result c.from-residual.ensures.1 in
+pub returns-in_err-first : goal.returns-in_err-first
+returns-in_err-first t c =
+    let p = err_from_is_err_and c.from_residual.result c.from_residual.ensures.1 in
     rw (p.1, p.2)
     (record {
-      answers = ap (λ g. forget g) (term_two c.args.depth c.args.bytes.now c.args.at c.if-depth-eq0.false c.if-at-bytes.false c.if-bytes-at-ne40.false) ∙ two_first (read_term (c.args.depth - 1)) (drop (c.args.at + 1) c.args.bytes.now) _ c.in-err-first.ensures.answers;
-      inside = c.in-err-first.ensures.inside;
+      answers = ap (λ g. forget g) (term_two c.args.depth c.args.bytes.now c.args.at c.if-depth-eq0.false c.if-at-bytes.false c.if-bytes-at-ne40.false) ∙ two_first (read_term (c.args.depth - 1)) (drop (c.args.at + 1) c.args.bytes.now) _ c.in_err-first.ensures.answers;
+      inside = c.in_err-first.ensures.inside;
     })
 
-pub returns-in-err-space : goal.returns-in-err-space
-returns-in-err-space t c =
-    let p = err_from_is_err_and c.from-residual-in-err-space.result c.from-residual-in-err-space.ensures.1 in
+pub returns-in_err-space : goal.returns-in_err-space
+returns-in_err-space t c =
+    let p = err_from_is_err_and c.from_residual-in_err-space.result c.from_residual-in_err-space.ensures.1 in
     rw (p.1, p.2)
     (record {
-      answers = ap (λ g. forget g) (term_two c.args.depth c.args.bytes.now c.args.at c.if-depth-eq0.false c.if-at-bytes.false c.if-bytes-at-ne40.false) ∙ two_space (read_term (c.args.depth - 1)) (drop (c.args.at + 1) c.args.bytes.now) (drop c.in-ok-first.first c.args.bytes.now) c.in-ok-first.ensures.answers _ c.in-err-space.ensures.answers;
-      inside = c.in-err-space.ensures.inside;
+      answers = ap (λ g. forget g) (term_two c.args.depth c.args.bytes.now c.args.at c.if-depth-eq0.false c.if-at-bytes.false c.if-bytes-at-ne40.false) ∙ two_space (read_term (c.args.depth - 1)) (drop (c.args.at + 1) c.args.bytes.now) (drop c.in_ok-first.first c.args.bytes.now) c.in_ok-first.ensures.answers _ c.in_err-space.ensures.answers;
+      inside = c.in_err-space.ensures.inside;
     })
 
-pub returns-in-err-sign : goal.returns-in-err-sign
-returns-in-err-sign t c =
-    let p = err_from_is_err_and c.from-residual-in-err-sign.result c.from-residual-in-err-sign.ensures.1 in
+pub returns-in_err-sign : goal.returns-in_err-sign
+returns-in_err-sign t c =
+    let p = err_from_is_err_and c.from_residual-in_err-sign.result c.from_residual-in_err-sign.ensures.1 in
     rw (p.1, p.2)
     (record {
-      answers = ap (λ g. forget g) (term_two c.args.depth c.args.bytes.now c.args.at c.if-depth-eq0.false c.if-at-bytes.false c.if-bytes-at-ne40.false) ∙ two_sign (read_term (c.args.depth - 1)) (drop (c.args.at + 1) c.args.bytes.now) (drop c.in-ok-first.first c.args.bytes.now) c.in-ok-first.ensures.answers (drop c.in-ok-space.space c.args.bytes.now) c.in-ok-space.ensures.answers _ c.in-err-sign.ensures.answers;
-      inside = c.in-err-sign.ensures.inside;
+      answers = ap (λ g. forget g) (term_two c.args.depth c.args.bytes.now c.args.at c.if-depth-eq0.false c.if-at-bytes.false c.if-bytes-at-ne40.false) ∙ two_sign (read_term (c.args.depth - 1)) (drop (c.args.at + 1) c.args.bytes.now) (drop c.in_ok-first.first c.args.bytes.now) c.in_ok-first.ensures.answers (drop c.in_ok-space.space c.args.bytes.now) c.in_ok-space.ensures.answers _ c.in_err-sign.ensures.answers;
+      inside = c.in_err-sign.ensures.inside;
     })
 
-pub returns-in-err-gap : goal.returns-in-err-gap
-returns-in-err-gap t c =
-    let p = err_from_is_err_and c.from-residual-in-err-gap.result c.from-residual-in-err-gap.ensures.1 in
+pub returns-in_err-gap : goal.returns-in_err-gap
+returns-in_err-gap t c =
+    let p = err_from_is_err_and c.from_residual-in_err-gap.result c.from_residual-in_err-gap.ensures.1 in
     rw (p.1, p.2)
     (record {
-      answers = ap (λ g. forget g) (term_two c.args.depth c.args.bytes.now c.args.at c.if-depth-eq0.false c.if-at-bytes.false c.if-bytes-at-ne40.false) ∙ two_gap (read_term (c.args.depth - 1)) (drop (c.args.at + 1) c.args.bytes.now) (drop c.in-ok-first.first c.args.bytes.now) c.in-ok-first.ensures.answers (drop c.in-ok-space.space c.args.bytes.now) c.in-ok-space.ensures.answers (drop c.in-ok-sign.sign c.args.bytes.now) c.in-ok-sign.ensures.answers _ c.in-err-gap.ensures.answers;
-      inside = c.in-err-gap.ensures.inside;
+      answers = ap (λ g. forget g) (term_two c.args.depth c.args.bytes.now c.args.at c.if-depth-eq0.false c.if-at-bytes.false c.if-bytes-at-ne40.false) ∙ two_gap (read_term (c.args.depth - 1)) (drop (c.args.at + 1) c.args.bytes.now) (drop c.in_ok-first.first c.args.bytes.now) c.in_ok-first.ensures.answers (drop c.in_ok-space.space c.args.bytes.now) c.in_ok-space.ensures.answers (drop c.in_ok-sign.sign c.args.bytes.now) c.in_ok-sign.ensures.answers _ c.in_err-gap.ensures.answers;
+      inside = c.in_err-gap.ensures.inside;
     })
 
-pub returns-in-err-second : goal.returns-in-err-second
-returns-in-err-second t c =
-    let p = err_from_is_err_and c.from-residual-in-err-second.result c.from-residual-in-err-second.ensures.1 in
+pub returns-in_err-second : goal.returns-in_err-second
+returns-in_err-second t c =
+    let p = err_from_is_err_and c.from_residual-in_err-second.result c.from_residual-in_err-second.ensures.1 in
     rw (p.1, p.2)
     (record {
-      answers = ap (λ g. forget g) (term_two c.args.depth c.args.bytes.now c.args.at c.if-depth-eq0.false c.if-at-bytes.false c.if-bytes-at-ne40.false) ∙ two_second (read_term (c.args.depth - 1)) (drop (c.args.at + 1) c.args.bytes.now) (drop c.in-ok-first.first c.args.bytes.now) c.in-ok-first.ensures.answers (drop c.in-ok-space.space c.args.bytes.now) c.in-ok-space.ensures.answers (drop c.in-ok-sign.sign c.args.bytes.now) c.in-ok-sign.ensures.answers (drop c.in-ok-gap.gap c.args.bytes.now) c.in-ok-gap.ensures.answers _ c.in-err-second.ensures.answers;
-      inside = c.in-err-second.ensures.inside;
+      answers = ap (λ g. forget g) (term_two c.args.depth c.args.bytes.now c.args.at c.if-depth-eq0.false c.if-at-bytes.false c.if-bytes-at-ne40.false) ∙ two_second (read_term (c.args.depth - 1)) (drop (c.args.at + 1) c.args.bytes.now) (drop c.in_ok-first.first c.args.bytes.now) c.in_ok-first.ensures.answers (drop c.in_ok-space.space c.args.bytes.now) c.in_ok-space.ensures.answers (drop c.in_ok-sign.sign c.args.bytes.now) c.in_ok-sign.ensures.answers (drop c.in_ok-gap.gap c.args.bytes.now) c.in_ok-gap.ensures.answers _ c.in_err-second.ensures.answers;
+      inside = c.in_err-second.ensures.inside;
     })
 
 pub returns : goal.returns
 returns t c =
     record {
-      answers = ap (λ g. forget g) (term_two c.args.depth c.args.bytes.now c.args.at c.if-depth-eq0.false c.if-at-bytes.false c.if-bytes-at-ne40.false) ∙ two_whole (read_term (c.args.depth - 1)) (drop (c.args.at + 1) c.args.bytes.now) (drop c.in-ok-first.first c.args.bytes.now) c.in-ok-first.ensures.answers (drop c.in-ok-space.space c.args.bytes.now) c.in-ok-space.ensures.answers (drop c.in-ok-sign.sign c.args.bytes.now) c.in-ok-sign.ensures.answers (drop c.in-ok-gap.gap c.args.bytes.now) c.in-ok-gap.ensures.answers (drop c.in-ok-second.second c.args.bytes.now) (at_place c.args.bytes.now c.read-literal-3.result) c.in-ok-second.ensures.answers c.read-literal-3.ensures.answers;
-      inside = c.read-literal-3.ensures.inside;
+      answers = ap (λ g. forget g) (term_two c.args.depth c.args.bytes.now c.args.at c.if-depth-eq0.false c.if-at-bytes.false c.if-bytes-at-ne40.false) ∙ two_whole (read_term (c.args.depth - 1)) (drop (c.args.at + 1) c.args.bytes.now) (drop c.in_ok-first.first c.args.bytes.now) c.in_ok-first.ensures.answers (drop c.in_ok-space.space c.args.bytes.now) c.in_ok-space.ensures.answers (drop c.in_ok-sign.sign c.args.bytes.now) c.in_ok-sign.ensures.answers (drop c.in_ok-gap.gap c.args.bytes.now) c.in_ok-gap.ensures.answers (drop c.in_ok-second.second c.args.bytes.now) (at_place c.args.bytes.now c.read_literal-3.result) c.in_ok-second.ensures.answers c.read_literal-3.ensures.answers;
+      inside = c.read_literal-3.ensures.inside;
     }

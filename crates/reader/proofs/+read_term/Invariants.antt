@@ -1,4 +1,4 @@
 use Rattle.reader.proofs.+read_term.Given as goal
 
-abbrev pub decreases-read-term : goal.decreases-read-term
-decreases-read-term l = l.depth
+abbrev pub decreases-read_term : goal.decreases-read_term
+decreases-read_term l = l.depth

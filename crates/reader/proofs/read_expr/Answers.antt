@@ -1,10 +1,7 @@
-use Rattle.std.proofs.Common.{◌≡◌, ℕ, suc, ◌+◌, ◌-◌, length, drop, codes, sym, refl, ap, ◌∙◌, arith}
+use Rattle.std.proofs.Common.{◌≡◌, suc, ◌+◌, ◌-◌, length, drop, sym, ap, ◌∙◌, arith}
 use Rattle.std.proofs.lemmas.List.{length-drop}
-use Rattle.std.proofs.lemmas.Result.{err_from_is_err_and}
-use Rattle.grammar.specs.Syntax.{newline}
 use Rattle.grammar.specs.Parse.{read_term}
-use Rattle.reader.specs.Places.{forget, at_place}
-use Rattle.reader.proofs.Terms.{last_bad}
+use Rattle.reader.specs.Places.{forget}
 use Rattle.reader.proofs.read_expr.Goals as goal
 
 pub returns : goal.returns

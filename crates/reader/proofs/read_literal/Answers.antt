@@ -1,4 +1,4 @@
-use Rattle.std.proofs.Common.{◌≡◌, sym, ◌∙◌, arith}
+use Rattle.std.proofs.Common.{sym, ◌∙◌, arith}
 use Rattle.reader.proofs.Spans.{expect_more, expect_other, expect_short, expect_done}
 use Rattle.reader.proofs.read_literal.Goals as goal
 

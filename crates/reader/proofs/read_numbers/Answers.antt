@@ -1,8 +1,7 @@
-use Rattle.std.proofs.Common.{◌≡◌, ℕ, suc, ◌+◌, ◌-◌, length, drop, Ok, Err, sym, refl, ap, ◌∙◌, arith}
-use Rattle.std.proofs.lemmas.List.{length-drop}
+use Rattle.std.proofs.Common.{◌+◌, ◌-◌, drop, Ok, Err, sym, refl, ◌∙◌, arith}
 use Rattle.std.proofs.lemmas.Result.{err_from_is_err_and}
-use Rattle.grammar.specs.Parse.{read_name, read_number, read_row, read_lines}
-use Rattle.reader.specs.Places.{forget, shape, at_place, close_of}
+use Rattle.grammar.specs.Parse.{read_number, read_row}
+use Rattle.reader.specs.Places.{forget}
 use Rattle.reader.proofs.Rows.{row_zero, numbers_none, numbers_end, numbers_other, numbers_bad, numbers_more, forgot}
 use Rattle.reader.proofs.read_numbers.Goals as goal
 
@@ -16,17 +15,17 @@ pub returns-then-bytes-end-ne32 : goal.returns-then-bytes-end-ne32
 returns-then-bytes-end-ne32 c =
     record { answers = sym c.loop-left.invariant.0 ∙ numbers_other c.loop-left.left c.args.bytes.now c.loop-left.end (λ z. omega (arith, z, c.loop-left-test.true)) c.if-end-bytes.false c.if-bytes-end-eq10.false c.if-bytes-end-ne32.true; inside = c.loop-left.invariant.1 }
 
-pub returns-in-err-end : goal.returns-in-err-end
-returns-in-err-end c =
-    let p = err_from_is_err_and c.from-residual.result c.from-residual.ensures.1 in
-    rw (p.1, p.2) (record { answers = sym c.loop-left.invariant.0 ∙ numbers_bad c.loop-left.left c.args.bytes.now c.loop-left.end (λ z. omega (arith, z, c.loop-left-test.true)) _ c.if-end-bytes.false c.if-bytes-end-eq10.false c.if-bytes-end-ne32.false (forgot c.args.bytes.now (c.loop-left.end + 1) (read_number (drop (c.loop-left.end + 1) c.args.bytes.now)) (Err _) c.in-err-end.ensures.answers); inside = c.in-err-end.ensures.inside })
+pub returns-in_err-end : goal.returns-in_err-end
+returns-in_err-end c =
+    let p = err_from_is_err_and c.from_residual.result c.from_residual.ensures.1 in
+    rw (p.1, p.2) (record { answers = sym c.loop-left.invariant.0 ∙ numbers_bad c.loop-left.left c.args.bytes.now c.loop-left.end (λ z. omega (arith, z, c.loop-left-test.true)) _ c.if-end-bytes.false c.if-bytes-end-eq10.false c.if-bytes-end-ne32.false (forgot c.args.bytes.now (c.loop-left.end + 1) (read_number (drop (c.loop-left.end + 1) c.args.bytes.now)) (Err _) c.in_err-end.ensures.answers); inside = c.in_err-end.ensures.inside })
 
 pub loop-left-preserved : goal.loop-left-preserved
 loop-left-preserved c = (
-  sym (numbers_more c.loop-left.left c.args.bytes.now c.loop-left.end (λ z. omega (arith, z, c.loop-left-test.true)) (drop c.in-ok-end.end c.args.bytes.now) (forget (read_row read_number (c.loop-left.left - 1) (drop c.in-ok-end.end c.args.bytes.now))) c.if-end-bytes.false c.if-bytes-end-eq10.false c.if-bytes-end-ne32.false
-      (forgot c.args.bytes.now (c.loop-left.end + 1) (read_number (drop (c.loop-left.end + 1) c.args.bytes.now)) (Ok c.in-ok-end.end) c.in-ok-end.ensures.answers) refl)
+  sym (numbers_more c.loop-left.left c.args.bytes.now c.loop-left.end (λ z. omega (arith, z, c.loop-left-test.true)) (drop c.in_ok-end.end c.args.bytes.now) (forget (read_row read_number (c.loop-left.left - 1) (drop c.in_ok-end.end c.args.bytes.now))) c.if-end-bytes.false c.if-bytes-end-eq10.false c.if-bytes-end-ne32.false
+      (forgot c.args.bytes.now (c.loop-left.end + 1) (read_number (drop (c.loop-left.end + 1) c.args.bytes.now)) (Ok c.in_ok-end.end) c.in_ok-end.ensures.answers) refl)
       ∙ c.loop-left.invariant.0,
-  c.in-ok-end.ensures.inside,
+  c.in_ok-end.ensures.inside,
 )
 
 pub returns : goal.returns

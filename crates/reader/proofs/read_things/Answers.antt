@@ -1,4 +1,4 @@
-use Rattle.std.proofs.Common.{◌≡◌, ℕ, ◌-◌, drop, sym, refl, ◌∙◌, arith}
+use Rattle.std.proofs.Common.{◌-◌, drop, sym, refl, ◌∙◌, arith}
 use Rattle.std.proofs.lemmas.Result.{err_from_is_err_and}
 use Rattle.grammar.specs.Parse.{read_things}
 use Rattle.reader.specs.Places.{forget, at_place}
@@ -16,21 +16,21 @@ returns-then-bytes-end-ne116 c =
       whole = c.read_notes.ensures.whole;
     }
 
-pub returns-in-err-first : goal.returns-in-err-first
-returns-in-err-first c =
-    let p = err_from_is_err_and c.from-residual.result c.from-residual.ensures.1 in
-    rw (p.1, p.2) (record { answers = sym c.loop-left.invariant.0 ∙ things_first_bad c.loop-left.left c.args.bytes.now c.loop-left.end (λ z. omega (arith, z, c.loop-left-test.true)) c.if-end-bytes.false c.if-bytes-end-ne116.false _ c.in-err-first.ensures.answers; inside = c.in-err-first.ensures.inside; whole = tt })
+pub returns-in_err-first : goal.returns-in_err-first
+returns-in_err-first c =
+    let p = err_from_is_err_and c.from_residual.result c.from_residual.ensures.1 in
+    rw (p.1, p.2) (record { answers = sym c.loop-left.invariant.0 ∙ things_first_bad c.loop-left.left c.args.bytes.now c.loop-left.end (λ z. omega (arith, z, c.loop-left-test.true)) c.if-end-bytes.false c.if-bytes-end-ne116.false _ c.in_err-first.ensures.answers; inside = c.in_err-first.ensures.inside; whole = tt })
 
-pub returns-in-err-end : goal.returns-in-err-end
-returns-in-err-end c =
-    let p = err_from_is_err_and c.from-residual-in-err-end.result c.from-residual-in-err-end.ensures.1 in
-    rw (p.1, p.2) (record { answers = sym c.loop-left.invariant.0 ∙ things_item_bad c.loop-left.left c.args.bytes.now c.loop-left.end (λ z. omega (arith, z, c.loop-left-test.true)) c.if-end-bytes.false c.if-bytes-end-ne116.false (drop c.in-ok-first.first c.args.bytes.now) _ c.in-ok-first.ensures.answers c.in-err-end.ensures.answers; inside = c.in-err-end.ensures.inside; whole = tt })
+pub returns-in_err-end : goal.returns-in_err-end
+returns-in_err-end c =
+    let p = err_from_is_err_and c.from_residual-in_err-end.result c.from_residual-in_err-end.ensures.1 in
+    rw (p.1, p.2) (record { answers = sym c.loop-left.invariant.0 ∙ things_item_bad c.loop-left.left c.args.bytes.now c.loop-left.end (λ z. omega (arith, z, c.loop-left-test.true)) c.if-end-bytes.false c.if-bytes-end-ne116.false (drop c.in_ok-first.first c.args.bytes.now) _ c.in_ok-first.ensures.answers c.in_err-end.ensures.answers; inside = c.in_err-end.ensures.inside; whole = tt })
 
 pub loop-left-preserved : goal.loop-left-preserved
 loop-left-preserved c = (
-  sym (things_item_more c.loop-left.left c.args.bytes.now c.loop-left.end (λ z. omega (arith, z, c.loop-left-test.true)) c.if-end-bytes.false c.if-bytes-end-ne116.false (drop c.in-ok-first.first c.args.bytes.now) (drop c.in-ok-end.end c.args.bytes.now) (forget (read_things (c.loop-left.left - 1) (drop c.in-ok-end.end c.args.bytes.now))) c.in-ok-first.ensures.answers c.in-ok-end.ensures.answers refl)
+  sym (things_item_more c.loop-left.left c.args.bytes.now c.loop-left.end (λ z. omega (arith, z, c.loop-left-test.true)) c.if-end-bytes.false c.if-bytes-end-ne116.false (drop c.in_ok-first.first c.args.bytes.now) (drop c.in_ok-end.end c.args.bytes.now) (forget (read_things (c.loop-left.left - 1) (drop c.in_ok-end.end c.args.bytes.now))) c.in_ok-first.ensures.answers c.in_ok-end.ensures.answers refl)
       ∙ c.loop-left.invariant.0,
-  c.in-ok-end.ensures.inside,
+  c.in_ok-end.ensures.inside,
 )
 
 pub returns : goal.returns

@@ -1,4 +1,4 @@
-use Rattle.std.proofs.Common.{◌≡◌, ℕ, suc, ◌+◌, ◌-◌, drop, sym, ap, ◌∙◌, arith}
+use Rattle.std.proofs.Common.{◌≡◌, suc, ◌+◌, ◌-◌, drop, ap, ◌∙◌, arith}
 use Rattle.grammar.specs.Parse.{more_word}
 use Rattle.reader.specs.Places.{span}
 use Rattle.reader.proofs.Spans.{word_begins, word_none, word_other, word_ends, word_stops, word_full, word_more}
@@ -7,25 +7,25 @@ use Rattle.reader.proofs.read_word.Goals as goal
 pub returns-then-at-bytes : goal.returns-then-at-bytes
 returns-then-at-bytes c = record { answers = word_none c.args.bytes.now c.args.at c.if-at-bytes.true; inside = c.requires; short = tt }
 
-pub returns-then-not-is-letter : goal.returns-then-not-is-letter
-returns-then-not-is-letter c = record { answers = word_other c.args.bytes.now c.args.at c.if-at-bytes.false c.if-not-is-letter.ensures; inside = c.requires; short = tt }
+pub returns-then-not-is_letter : goal.returns-then-not-is_letter
+returns-then-not-is_letter c = record { answers = word_other c.args.bytes.now c.args.at c.if-at-bytes.false c.if-not-is_letter.ensures; inside = c.requires; short = tt }
 
 pub loop-end-init : goal.loop-end-init
 loop-end-init c =
     let e : 7 ≡ 8 - (c.args.at + 1 - c.args.at) = omega arith in (
-      word_begins c.args.bytes.now c.args.at c.if-at-bytes.false c.if-not-is-letter.ensures
+      word_begins c.args.bytes.now c.args.at c.if-at-bytes.false c.if-not-is_letter.ensures
           ∙ ap (λ k. more_word k (span c.args.bytes.now c.args.at (c.args.at + 1)) (drop (c.args.at + 1) c.args.bytes.now)) e,
       omega arith,
       omega arith,
       omega arith,
     )
 
-pub returns-then-not-is-in-word : goal.returns-then-not-is-in-word
-returns-then-not-is-in-word c =
+pub returns-then-not-is_in_word : goal.returns-then-not-is_in_word
+returns-then-not-is_in_word c =
     record {
       answers =
           c.loop-end.invariant.0
-          ∙ word_stops c.args.bytes.now c.args.at c.loop-end.end c.loop-end.invariant.1 (8 - (c.loop-end.end - c.args.at)) c.loop-end-test.true c.if-not-is-in-word.ensures;
+          ∙ word_stops c.args.bytes.now c.args.at c.loop-end.end c.loop-end.invariant.1 (8 - (c.loop-end.end - c.args.at)) c.loop-end-test.true c.if-not-is_in_word.ensures;
       inside = c.loop-end.invariant.2;
       short = (c.loop-end.invariant.1, c.loop-end.invariant.3);
     }
@@ -37,7 +37,7 @@ returns-then-end-at-ge-LONGEST c =
       answers =
           c.loop-end.invariant.0
           ∙ ap (λ k. more_word k (span c.args.bytes.now c.args.at c.loop-end.end) (drop c.loop-end.end c.args.bytes.now)) e
-          ∙ word_full c.args.bytes.now c.args.at c.loop-end.end c.loop-end.invariant.1 c.loop-end-test.true c.if-not-is-in-word.ensures;
+          ∙ word_full c.args.bytes.now c.args.at c.loop-end.end c.loop-end.invariant.1 c.loop-end-test.true c.if-not-is_in_word.ensures;
       inside = c.loop-end.invariant.2;
       short = tt;
     }
@@ -47,7 +47,7 @@ loop-end-preserved c =
     let e : 8 - (c.loop-end.end - c.args.at) ≡ suc (8 - (c.loop-end.end + 1 - c.args.at)) = omega arith in (
       c.loop-end.invariant.0
           ∙ ap (λ k. more_word k (span c.args.bytes.now c.args.at c.loop-end.end) (drop c.loop-end.end c.args.bytes.now)) e
-          ∙ word_more c.args.bytes.now c.args.at c.loop-end.end c.loop-end.invariant.1 (8 - (c.loop-end.end + 1 - c.args.at)) c.loop-end-test.true c.if-not-is-in-word.ensures,
+          ∙ word_more c.args.bytes.now c.args.at c.loop-end.end c.loop-end.invariant.1 (8 - (c.loop-end.end + 1 - c.args.at)) c.loop-end-test.true c.if-not-is_in_word.ensures,
       omega arith,
       omega arith,
       omega arith,

@@ -1,4 +1,4 @@
-use Rattle.std.proofs.Common.{length, sym, refl, arith}
+use Rattle.std.proofs.Common.{length, refl}
 use Rattle.std.proofs.lemmas.Bool.{lt-ltb, le-leb}
 use Rattle.sequential.proofs.Starts.{begun}
 use Rattle.sequential.proofs.begin.Goals as goal
@@ -9,6 +9,6 @@ returns c =
       answers =
           rw (lt-ltb c.args.luck 2147483648 c.if-luck-ge-SEEDS.false, le-leb (length c.args.processes.now) 65536 c.if-processes-gt-PROCESSES.false, le-leb (length c.args.outside.now) (length c.args.row.now) c.if-outside-row.false) refl;
       holds =
-          begun c.args.luck c.args.outside.now c.args.processes.now c.start-all.new.processes c.args.row.now c.insert-all.new.row c.insert-all.new.len _ _ c.insert-all.result
-          c.start-all.ensures c.if-outside-row.false c.insert-all.auto.row c.insert-all.ensures;
+          begun c.args.luck c.args.outside.now c.args.processes.now c.start_all.new.processes c.args.row.now c.insert_all.new.row c.insert_all.new.len _ _ c.insert_all.result
+          c.start_all.ensures c.if-outside-row.false c.insert_all.auto.row c.insert_all.ensures;
     }

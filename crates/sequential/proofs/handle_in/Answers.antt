@@ -1,22 +1,22 @@
-use Rattle.std.proofs.Common.{◌≡◌, ℕ, ◌+◌, ◌-◌, ◌*◌, min, [], length, get_or, take, drop, sym, refl, ap, ◌∙◌, subst, arith}
+use Rattle.std.proofs.Common.{◌≡◌, ◌+◌, ◌-◌, ◌*◌, min, length, get_or, take, drop, refl, ◌∙◌, arith}
 use Rattle.sequential.proofs.Stored.{answers_in, holds_in, nobody_answers, nobody_holds, absent}
 use Rattle.sequential.proofs.handle_in.Goals as goal
 
 pub returns : goal.returns
 returns c =
-    let width : c.args.m.to * 64 + c.width-of.result - c.args.m.to * 64 ≡ min (get_or c.args.processes.now c.args.m.to absent).width 64 =
-    let e : c.args.m.to * 64 + c.width-of.result - c.args.m.to * 64 ≡ c.width-of.result = omega arith in e ∙ c.width-of.ensures in
+    let width : c.args.m.to * 64 + c.width_of.result - c.args.m.to * 64 ≡ min (get_or c.args.processes.now c.args.m.to absent).width 64 =
+    let e : c.args.m.to * 64 + c.width_of.result - c.args.m.to * 64 ≡ c.width_of.result = omega arith in e ∙ c.width_of.ensures in
     record {
       answers =
           answers_in c.args.code.now c.args.kinds.now c.args.processes.now c.args.vars.now c.args.m c.args.sends.now c.args.lines.now
-          c.handle-done.new.process c.handle-done.new.vars (take (c.args.m.to * 64 + c.width-of.result - c.args.m.to * 64) (drop (c.args.m.to * 64) c.args.vars.now)) c.code-of-2.result.now
-          (length c.args.processes.now) (c.args.m.to * 64 + c.width-of.result - c.args.m.to * 64) c.handle-done.result c.handle-done.new.sends c.handle-done.new.lines
-          c.if-k-count.false c.requires.wide width refl c.code-of-2.ensures refl c.handle-done.auto.vars c.handle-done.ensures.answers c.handle-done.ensures.holds;
+          c.handle-done.new.process c.handle-done.new.vars (take (c.args.m.to * 64 + c.width_of.result - c.args.m.to * 64) (drop (c.args.m.to * 64) c.args.vars.now)) c.code_of-2.result.now
+          (length c.args.processes.now) (c.args.m.to * 64 + c.width_of.result - c.args.m.to * 64) c.handle-done.result c.handle-done.new.sends c.handle-done.new.lines
+          c.if-k-count.false c.requires.wide width refl c.code_of-2.ensures refl c.handle-done.auto.vars c.handle-done.ensures.answers c.handle-done.ensures.holds;
       holds =
           holds_in c.args.code.now c.args.kinds.now c.args.processes.now c.args.vars.now c.args.m c.args.sends.now c.args.lines.now
-          c.handle-done.new.process c.handle-done.new.vars (take (c.args.m.to * 64 + c.width-of.result - c.args.m.to * 64) (drop (c.args.m.to * 64) c.args.vars.now)) c.code-of-2.result.now
-          (length c.args.processes.now) (c.args.m.to * 64 + c.width-of.result - c.args.m.to * 64) c.handle-done.result c.handle-done.new.sends c.handle-done.new.lines
-          c.if-k-count.false c.requires.wide width refl c.code-of-2.ensures refl c.handle-done.auto.vars c.handle-done.ensures.answers c.handle-done.ensures.holds;
+          c.handle-done.new.process c.handle-done.new.vars (take (c.args.m.to * 64 + c.width_of.result - c.args.m.to * 64) (drop (c.args.m.to * 64) c.args.vars.now)) c.code_of-2.result.now
+          (length c.args.processes.now) (c.args.m.to * 64 + c.width_of.result - c.args.m.to * 64) c.handle-done.result c.handle-done.new.sends c.handle-done.new.lines
+          c.if-k-count.false c.requires.wide width refl c.code_of-2.ensures refl c.handle-done.auto.vars c.handle-done.ensures.answers c.handle-done.ensures.holds;
     }
 
 pub returns-then-k-count : goal.returns-then-k-count
@@ -24,10 +24,10 @@ returns-then-k-count c =
     record {
       answers =
           nobody_answers c.args.code.now c.args.kinds.now c.args.processes.now c.args.vars.now c.args.m c.args.sends.now c.args.lines.now
-          c.handle.new.process c.handle.new.vars c.code-of.result.now (length c.args.processes.now) c.handle.result c.handle.new.sends c.handle.new.lines
-          c.if-k-count.true c.code-of.ensures refl c.handle.ensures.answers c.handle.ensures.holds;
+          c.handle.new.process c.handle.new.vars c.code_of.result.now (length c.args.processes.now) c.handle.result c.handle.new.sends c.handle.new.lines
+          c.if-k-count.true c.code_of.ensures refl c.handle.ensures.answers c.handle.ensures.holds;
       holds =
           nobody_holds c.args.code.now c.args.kinds.now c.args.processes.now c.args.vars.now c.args.m c.args.sends.now c.args.lines.now
-          c.handle.new.process c.handle.new.vars c.code-of.result.now (length c.args.processes.now) c.handle.result c.handle.new.sends c.handle.new.lines
-          c.if-k-count.true c.code-of.ensures refl c.handle.ensures.answers c.handle.ensures.holds;
+          c.handle.new.process c.handle.new.vars c.code_of.result.now (length c.args.processes.now) c.handle.result c.handle.new.sends c.handle.new.lines
+          c.if-k-count.true c.code_of.ensures refl c.handle.ensures.answers c.handle.ensures.holds;
     }

@@ -1,4 +1,4 @@
-use Rattle.std.proofs.Common.{◌≡◌, sym, subst}
+use Rattle.std.proofs.Common.{sym, subst}
 use Rattle.meaning.specs.Model.{State}
 use Rattle.meaning.specs.Promise.{Sorted}
 use Rattle.meaning.proofs.States.{in_order}

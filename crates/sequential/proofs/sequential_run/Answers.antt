@@ -1,5 +1,5 @@
 use Rattle.std.proofs.Common.{length}
-use Rattle.sequential.specs.Memory.{Memory, shaped}
+use Rattle.sequential.specs.Memory.{shaped}
 use Rattle.sequential.proofs.Runs.{steps_only}
 use Rattle.sequential.proofs.sequential_run.Goals as goal
 

@@ -1,4 +1,4 @@
 use Rattle.checker.proofs.lines.+check_lines.Given as goal
 
-abbrev pub decreases-check-lines : goal.decreases-check-lines
-decreases-check-lines l = l.most
+abbrev pub decreases-check_lines : goal.decreases-check_lines
+decreases-check_lines l = l.most

@@ -17,51 +17,51 @@ returns-then-bytes-at-ne40 t c =
       inside = c.check_plain.ensures.inside;
     }
 
-pub returns-in-err-first : goal.returns-in-err-first
-returns-in-err-first t c =
+pub returns-in_err-first : goal.returns-in_err-first
+returns-in_err-first t c =
     let bs = c.args.bytes.now in
     let names = names_in c.args.names.now in
-    let g : forget (check_two (check_term names (c.args.depth - 1)) (drop (c.args.at + 1) bs)) ≡ answer_at bs c.from-residual.result = search rules in
+    let g : forget (check_two (check_term names (c.args.depth - 1)) (drop (c.args.at + 1) bs)) ≡ answer_at bs c.from_residual.result = search rules in
     record {
       answers = ap forget (term_two names c.args.depth bs c.args.at c.if-depth-eq0.false c.if-at-bytes.false c.if-bytes-at-ne40.false) ∙ g;
       inside = search rules;
     }
 
-pub returns-in-err-space : goal.returns-in-err-space
-returns-in-err-space t c =
+pub returns-in_err-space : goal.returns-in_err-space
+returns-in_err-space t c =
     let bs = c.args.bytes.now in
     let names = names_in c.args.names.now in
-    let g : forget (check_two (check_term names (c.args.depth - 1)) (drop (c.args.at + 1) bs)) ≡ answer_at bs c.from-residual-in-err-space.result = search rules in
+    let g : forget (check_two (check_term names (c.args.depth - 1)) (drop (c.args.at + 1) bs)) ≡ answer_at bs c.from_residual-in_err-space.result = search rules in
     record {
       answers = ap forget (term_two names c.args.depth bs c.args.at c.if-depth-eq0.false c.if-at-bytes.false c.if-bytes-at-ne40.false) ∙ g;
       inside = search rules;
     }
 
-pub returns-in-err-sign : goal.returns-in-err-sign
-returns-in-err-sign t c =
+pub returns-in_err-sign : goal.returns-in_err-sign
+returns-in_err-sign t c =
     let bs = c.args.bytes.now in
     let names = names_in c.args.names.now in
-    let g : forget (check_two (check_term names (c.args.depth - 1)) (drop (c.args.at + 1) bs)) ≡ answer_at bs c.from-residual-in-err-sign.result = search rules in
+    let g : forget (check_two (check_term names (c.args.depth - 1)) (drop (c.args.at + 1) bs)) ≡ answer_at bs c.from_residual-in_err-sign.result = search rules in
     record {
       answers = ap forget (term_two names c.args.depth bs c.args.at c.if-depth-eq0.false c.if-at-bytes.false c.if-bytes-at-ne40.false) ∙ g;
       inside = search rules;
     }
 
-pub returns-in-err-gap : goal.returns-in-err-gap
-returns-in-err-gap t c =
+pub returns-in_err-gap : goal.returns-in_err-gap
+returns-in_err-gap t c =
     let bs = c.args.bytes.now in
     let names = names_in c.args.names.now in
-    let g : forget (check_two (check_term names (c.args.depth - 1)) (drop (c.args.at + 1) bs)) ≡ answer_at bs c.from-residual-in-err-gap.result = search rules in
+    let g : forget (check_two (check_term names (c.args.depth - 1)) (drop (c.args.at + 1) bs)) ≡ answer_at bs c.from_residual-in_err-gap.result = search rules in
     record {
       answers = ap forget (term_two names c.args.depth bs c.args.at c.if-depth-eq0.false c.if-at-bytes.false c.if-bytes-at-ne40.false) ∙ g;
       inside = search rules;
     }
 
-pub returns-in-err-second : goal.returns-in-err-second
-returns-in-err-second t c =
+pub returns-in_err-second : goal.returns-in_err-second
+returns-in_err-second t c =
     let bs = c.args.bytes.now in
     let names = names_in c.args.names.now in
-    let g : forget (check_two (check_term names (c.args.depth - 1)) (drop (c.args.at + 1) bs)) ≡ answer_at bs c.from-residual-in-err-second.result = search rules in
+    let g : forget (check_two (check_term names (c.args.depth - 1)) (drop (c.args.at + 1) bs)) ≡ answer_at bs c.from_residual-in_err-second.result = search rules in
     record {
       answers = ap forget (term_two names c.args.depth bs c.args.at c.if-depth-eq0.false c.if-at-bytes.false c.if-bytes-at-ne40.false) ∙ g;
       inside = search rules;
@@ -71,8 +71,8 @@ pub returns : goal.returns
 returns t c =
     let bs = c.args.bytes.now in
     let names = names_in c.args.names.now in
-    let g : forget (check_two (check_term names (c.args.depth - 1)) (drop (c.args.at + 1) bs)) ≡ answer_at bs c.check-literal-3.result = search rules in
+    let g : forget (check_two (check_term names (c.args.depth - 1)) (drop (c.args.at + 1) bs)) ≡ answer_at bs c.check_literal-3.result = search rules in
     record {
       answers = ap forget (term_two names c.args.depth bs c.args.at c.if-depth-eq0.false c.if-at-bytes.false c.if-bytes-at-ne40.false) ∙ g;
-      inside = c.check-literal-3.ensures.inside;
+      inside = c.check_literal-3.ensures.inside;
     }

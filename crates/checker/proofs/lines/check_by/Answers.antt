@@ -22,8 +22,8 @@ returns-in-Else c =
     let bs = c.args.bytes.now in
     let k : word_by c.args.word ≡ word_by (pack (unpack c.args.word)) = ap word_by (sym (packed_again c.args.word (omega arith))) in
     record {
-      answers = at_else names c.args.deep c.args.or_else (drop c.args.at bs) (drop c.args.end bs) (unpack c.args.word) c.requires.reads (c.in-Else.ensures ∙ k) ∙ c.check-else.ensures.answers;
-      inside = c.check-else.ensures.inside;
+      answers = at_else names c.args.deep c.args.or_else (drop c.args.at bs) (drop c.args.end bs) (unpack c.args.word) c.requires.reads (c.in-Else.ensures ∙ k) ∙ c.check_else.ensures.answers;
+      inside = c.check_else.ensures.inside;
     }
 
 pub returns-in-Say : goal.returns-in-Say
@@ -68,8 +68,8 @@ returns-in-If c =
       inside = c.check_deeper.ensures.inside;
     }
 
-pub returns-in-default : goal.returns-in-default
-returns-in-default c =
+pub returns-in_default : goal.returns-in_default
+returns-in_default c =
     let names = names_in c.args.names.now in
     let bs = c.args.bytes.now in
     let k : word_by c.args.word ≡ word_by (pack (unpack c.args.word)) = ap word_by (sym (packed_again c.args.word (omega arith))) in
@@ -77,6 +77,6 @@ returns-in-default c =
       answers =
           ap forget
           (at_none names c.args.deep c.args.or_else (drop c.args.at bs) (drop c.args.end bs) (unpack c.args.word) c.requires.reads c.word_by.result (c.word_by.ensures ∙ k)
-          c.in-default.not_End c.in-default.not_Else c.in-default.not_Say c.in-default.not_Send c.in-default.not_If c.in-default.not_Again c.in-default.not-Name);
+          c.in_default.not-End c.in_default.not-Else c.in_default.not-Say c.in_default.not-Send c.in_default.not-If c.in_default.not-Again c.in_default.not-Name);
       inside = c.requires.to;
     }

@@ -12,43 +12,43 @@ use Rattle.checker.proofs.CheckTerms.{read_so}
 use Rattle.checker.proofs.CheckHeads.{head_refused, head_taken}
 use Rattle.checker.proofs.lines.check_head.Goals as goal
 
-pub check-by-requires : goal.check-by-requires
-check-by-requires c =
+pub check_by-requires : goal.check_by-requires
+check_by-requires c =
     let bs = c.args.bytes.now in
-    let w = span bs c.args.at c.in-ok-end.end in
-    let d = drop c.in-ok-end.end bs in
-    let e = read_so (read_word (drop c.args.at bs)) w d c.in-ok-end.ensures.answers in
+    let w = span bs c.args.at c.in_ok-end.end in
+    let d = drop c.in_ok-end.end bs in
+    let e = read_so (read_word (drop c.args.at bs)) w d c.in_ok-end.ensures.answers in
     let u : unpack c.packed-word.result ≡ w = ap unpack c.packed-word.ensures ∙ unpacked w (word_good (drop c.args.at bs) w d e) in
-    record { from = c.requires; to = c.in-ok-end.ensures.inside; reads = e ∙ ap (λ v. got v d) (sym u) }
+    record { from = c.requires; to = c.in_ok-end.ensures.inside; reads = e ∙ ap (λ v. got v d) (sym u) }
 
-pub returns-in-err-next : goal.returns-in-err-next
-returns-in-err-next c =
+pub returns-in_err-next : goal.returns-in_err-next
+returns-in_err-next c =
     let bs = c.args.bytes.now in
-    let w = span bs c.args.at c.in-ok-end.end in
-    let d = drop c.in-ok-end.end bs in
-    let e = read_so (read_word (drop c.args.at bs)) w d c.in-ok-end.ensures.answers in
+    let w = span bs c.args.at c.in_ok-end.end in
+    let d = drop c.in_ok-end.end bs in
+    let e = read_so (read_word (drop c.args.at bs)) w d c.in_ok-end.ensures.answers in
     let u : unpack c.packed-word.result ≡ w = ap unpack c.packed-word.ensures ∙ unpacked w (word_good (drop c.args.at bs) w d e) in
-    let p = err_from_is_err_and c.from-residual-in-err-next.result c.from-residual-in-err-next.ensures.1 in
+    let p = err_from_is_err_and c.from_residual-in_err-next.result c.from_residual-in_err-next.ensures.1 in
     rw (p.1, p.2)
     (record {
       answers =
           head_refused (names_in c.args.names.now) c.args.deep c.args.or_else (drop c.args.at bs) d w e _ _
-          (ap (λ v. forget (check_by (names_in c.args.names.now) c.args.deep c.args.or_else (drop c.args.at bs) v d)) (sym u) ∙ c.in-err-next.ensures.answers);
-      inside = c.in-err-next.ensures.inside;
+          (ap (λ v. forget (check_by (names_in c.args.names.now) c.args.deep c.args.or_else (drop c.args.at bs) v d)) (sym u) ∙ c.in_err-next.ensures.answers);
+      inside = c.in_err-next.ensures.inside;
     })
 
 pub returns : goal.returns
 returns c =
     let bs = c.args.bytes.now in
-    let w = span bs c.args.at c.in-ok-end.end in
-    let d = drop c.in-ok-end.end bs in
-    let e = read_so (read_word (drop c.args.at bs)) w d c.in-ok-end.ensures.answers in
+    let w = span bs c.args.at c.in_ok-end.end in
+    let d = drop c.in_ok-end.end bs in
+    let e = read_so (read_word (drop c.args.at bs)) w d c.in_ok-end.ensures.answers in
     let u : unpack c.packed-word.result ≡ w = ap unpack c.packed-word.ensures ∙ unpacked w (word_good (drop c.args.at bs) w d e) in
     let s : c.sort_by.result ≡ sort_by (word_by (pack w)) = c.sort_by.ensures ∙ ap sort_by (c.word_by.ensures ∙ ap word_by c.packed-word.ensures) in
     record {
       answers =
-          head_taken (names_in c.args.names.now) c.args.deep c.args.or_else (drop c.args.at bs) d w e (drop c.in-ok-next.next bs)
-          (ap (λ v. forget (check_by (names_in c.args.names.now) c.args.deep c.args.or_else (drop c.args.at bs) v d)) (sym u) ∙ c.in-ok-next.ensures.answers)
-          ∙ ap (λ k. taken k (drop c.in-ok-next.next bs)) (sym s);
-      inside = c.in-ok-next.ensures.inside;
+          head_taken (names_in c.args.names.now) c.args.deep c.args.or_else (drop c.args.at bs) d w e (drop c.in_ok-next.next bs)
+          (ap (λ v. forget (check_by (names_in c.args.names.now) c.args.deep c.args.or_else (drop c.args.at bs) v d)) (sym u) ∙ c.in_ok-next.ensures.answers)
+          ∙ ap (λ k. taken k (drop c.in_ok-next.next bs)) (sym s);
+      inside = c.in_ok-next.ensures.inside;
     }

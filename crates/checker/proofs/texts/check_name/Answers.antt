@@ -1,4 +1,4 @@
-use Rattle.std.proofs.Common.{◌≡◌, drop, sym, ap, ◌∙◌, ap₂}
+use Rattle.std.proofs.Common.{drop, sym, ap, ◌∙◌}
 use Rattle.grammar.specs.Check.{taken, formed}
 use Rattle.checker.specs.Places.{span}
 use Rattle.checker.specs.Words.{unpack}

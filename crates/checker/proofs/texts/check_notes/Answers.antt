@@ -1,4 +1,4 @@
-use Rattle.std.proofs.Common.{◌≡◌, ℕ, ◌+◌, ◌-◌, drop, sym, ap, ◌∙◌, arith}
+use Rattle.std.proofs.Common.{◌≡◌, ◌+◌, ◌-◌, drop, sym, ap, ◌∙◌, arith}
 use Rattle.std.proofs.lemmas.Result.{err_from_is_err_and}
 use Rattle.grammar.specs.Check.{check_notes, most_notes}
 use Rattle.checker.specs.Texts.{sized}
@@ -23,24 +23,24 @@ returns-else-bytes-end-eq109 c =
       inside = c.loop-end.invariant.1;
     }
 
-pub returns-in-err-end : goal.returns-in-err-end
-returns-in-err-end c =
-    let p = err_from_is_err_and c.from-residual.result c.from-residual.ensures.1 in
+pub returns-in_err-end : goal.returns-in_err-end
+returns-in_err-end c =
+    let p = err_from_is_err_and c.from_residual.result c.from_residual.ensures.1 in
     rw (p.1, p.2)
     (record {
       answers =
           sym c.loop-end.invariant.0
-          ∙ notes_refused c.args.things (most_notes - c.loop-end.count) c.loop-end.count c.args.bytes.now c.loop-end.end (λ z. c.if-count-eq-NOTES.false (omega (arith, z, c.loop-end.invariant.2))) c.loop-end-test.true _ _ c.in-err-end.ensures.answers;
-      inside = c.in-err-end.ensures.inside;
+          ∙ notes_refused c.args.things (most_notes - c.loop-end.count) c.loop-end.count c.args.bytes.now c.loop-end.end (λ z. c.if-count-eq-NOTES.false (omega (arith, z, c.loop-end.invariant.2))) c.loop-end-test.true _ _ c.in_err-end.ensures.answers;
+      inside = c.in_err-end.ensures.inside;
     })
 
 pub loop-end-preserved : goal.loop-end-preserved
 loop-end-preserved c =
     let m : most_notes - c.loop-end.count - 1 ≡ most_notes - (c.loop-end.count + 1) = omega arith in (
-      ap (λ n. sized (c.loop-end.count + 1) (check_notes c.args.things n (drop c.in-ok-end.end c.args.bytes.now))) (sym m)
-          ∙ sym (notes_more c.args.things (most_notes - c.loop-end.count) c.loop-end.count c.args.bytes.now c.loop-end.end (λ z. c.if-count-eq-NOTES.false (omega (arith, z, c.loop-end.invariant.2))) c.loop-end-test.true (drop c.in-ok-end.end c.args.bytes.now) c.in-ok-end.ensures.answers)
+      ap (λ n. sized (c.loop-end.count + 1) (check_notes c.args.things n (drop c.in_ok-end.end c.args.bytes.now))) (sym m)
+          ∙ sym (notes_more c.args.things (most_notes - c.loop-end.count) c.loop-end.count c.args.bytes.now c.loop-end.end (λ z. c.if-count-eq-NOTES.false (omega (arith, z, c.loop-end.invariant.2))) c.loop-end-test.true (drop c.in_ok-end.end c.args.bytes.now) c.in_ok-end.ensures.answers)
           ∙ c.loop-end.invariant.0,
-      c.in-ok-end.ensures.inside,
+      c.in_ok-end.ensures.inside,
       omega arith,
     )
 

@@ -1,9 +1,9 @@
-use Rattle.std.proofs.Common.{◌≡◌, ℕ, ◌+◌, ◌-◌, ◌≤◌, length, drop, sym, ap, ◌∙◌, subst, arith}
+use Rattle.std.proofs.Common.{◌≡◌, ◌+◌, ◌-◌, ◌≤◌, length, drop, sym, ap, ◌∙◌, subst, arith}
 use Rattle.grammar.specs.Check.{check_row}
 use Rattle.checker.specs.declared.Refusal.{Refusal}
 use Rattle.checker.specs.Places.{span}
 use Rattle.checker.specs.Refusals.{refused_at}
-use Rattle.checker.specs.Texts.{Length, row_length, from_place, broken_by}
+use Rattle.checker.specs.Texts.{row_length, from_place}
 use Rattle.checker.proofs.CheckRows.{broken_at, broken_inside, row_zero, row_none, row_end, row_other, row_bad, row_more}
 use Rattle.checker.proofs.texts.check_row.Goals as goal
 
@@ -63,11 +63,11 @@ pub loop-count-preserved : goal.loop-count-preserved
 loop-count-preserved c =
     let bs = c.args.bytes.now in
     let m : c.args.most - c.loop-count.count - 1 ≡ c.args.most - (c.loop-count.count + 1) = omega arith in (
-      ap (λ n. row_length (c.loop-count.count + 1) (check_row n (from_place bs c.first-large-large.result) (drop c.in-Ok.next bs))) (sym m)
-          ∙ sym (row_more (c.args.most - c.loop-count.count) c.loop-count.count (from_place bs c.loop-count.large) bs c.loop-count.end (λ z. omega (arith, z, c.loop-count-test.true)) c.if-end-bytes.false c.if-bytes-end-eq10.false c.if-bytes-end-ne32.false (span bs (c.loop-count.end + 1) c.in-Ok.next) (drop c.in-Ok.next bs) (from_place bs c.first-large-large.result) c.in-Ok.ensures.answers c.first-large-large.ensures.answers)
+      ap (λ n. row_length (c.loop-count.count + 1) (check_row n (from_place bs c.first_large-large.result) (drop c.in-Ok.next bs))) (sym m)
+          ∙ sym (row_more (c.args.most - c.loop-count.count) c.loop-count.count (from_place bs c.loop-count.large) bs c.loop-count.end (λ z. omega (arith, z, c.loop-count-test.true)) c.if-end-bytes.false c.if-bytes-end-eq10.false c.if-bytes-end-ne32.false (span bs (c.loop-count.end + 1) c.in-Ok.next) (drop c.in-Ok.next bs) (from_place bs c.first_large-large.result) c.in-Ok.ensures.answers c.first_large-large.ensures.answers)
           ∙ c.loop-count.invariant.0,
       c.in-Ok.ensures.inside,
-      c.first-large-large.ensures.inside,
+      c.first_large-large.ensures.inside,
       omega arith,
     )
 

@@ -1,4 +1,4 @@
-use Rattle.std.proofs.Common.{◌≡◌, sym, ◌∙◌, arith}
+use Rattle.std.proofs.Common.{sym, ◌∙◌, arith}
 use Rattle.checker.proofs.Unpacked.{counted_none, counted_here, counted_more}
 use Rattle.checker.proofs.texts.count_of.Goals as goal
 

@@ -11,15 +11,15 @@ returns-then-left-eq0 t c =
       narrow = omega arith;
     }
 
-pub returns-then-byte-at-ne32 : goal.returns-then-byte-at-ne32
-returns-then-byte-at-ne32 t c =
+pub returns-then-byte_at-ne32 : goal.returns-then-byte_at-ne32
+returns-then-byte_at-ne32 t c =
     record {
       is =
           numbers_over c.args.bytes.now c.args.at c.args.left (row_of c.args.used c.args.vars.now) (row_of c.push-next.result c.push-next.new.items)
-          c.fill-numbers.result.at c.fill-numbers.result.width (row_of c.fill-numbers.result.used c.fill-numbers.new.vars) c.if-left-eq0.false
-          (λ e. c.if-byte-at-ne32.true (c.byte-at.ensures ∙ e)) c.push-next.ensures c.fill-numbers.ensures.is;
-      inside = c.fill-numbers.ensures.inside;
-      narrow = let w = c.fill-numbers.ensures.narrow in omega arith;
+          c.fill_numbers.result.at c.fill_numbers.result.width (row_of c.fill_numbers.result.used c.fill_numbers.new.vars) c.if-left-eq0.false
+          (λ e. c.if-byte_at-ne32.true (c.byte_at.ensures ∙ e)) c.push-next.ensures c.fill_numbers.ensures.is;
+      inside = c.fill_numbers.ensures.inside;
+      narrow = let w = c.fill_numbers.ensures.narrow in omega arith;
     }
 
 pub returns : goal.returns
@@ -27,9 +27,9 @@ returns t c =
     record {
       is =
           numbers_more c.args.bytes.now c.args.at c.args.left (row_of c.args.used c.args.vars.now) (row_of c.push-next-2.result c.push-next-2.new.items)
-          c.skip.result c.number-at-digits.result.number c.number-at-digits.result.at c.fill-numbers-rest.result.at c.fill-numbers-rest.result.width
-          (row_of c.fill-numbers-rest.result.used c.fill-numbers-rest.new.vars) c.if-left-eq0.false
-          (sym c.byte-at.ensures ∙ c.if-byte-at-ne32.false) c.skip.ensures.on c.number-at-digits.ensures.is c.push-next-2.ensures c.fill-numbers-rest.ensures.is;
-      inside = c.fill-numbers-rest.ensures.inside;
-      narrow = let w = c.fill-numbers-rest.ensures.narrow in omega arith;
+          c.skip.result c.number_at-digits.result.number c.number_at-digits.result.at c.fill_numbers-rest.result.at c.fill_numbers-rest.result.width
+          (row_of c.fill_numbers-rest.result.used c.fill_numbers-rest.new.vars) c.if-left-eq0.false
+          (sym c.byte_at.ensures ∙ c.if-byte_at-ne32.false) c.skip.ensures.on c.number_at-digits.ensures.is c.push-next-2.ensures c.fill_numbers-rest.ensures.is;
+      inside = c.fill_numbers-rest.ensures.inside;
+      narrow = let w = c.fill_numbers-rest.ensures.narrow in omega arith;
     }

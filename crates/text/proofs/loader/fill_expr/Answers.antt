@@ -6,7 +6,7 @@ pub returns : goal.returns
 returns c =
     record {
       is =
-          expr_deep c.args.bytes.now c.args.names.now c.args.at (row_of c.args.used c.args.code.now) c.fill-term.result.at
-          (row_of c.fill-term.result.used c.fill-term.new.code) c.fill-term.ensures.is;
-      inside = c.fill-term.ensures.inside;
+          expr_deep c.args.bytes.now c.args.names.now c.args.at (row_of c.args.used c.args.code.now) c.fill_term.result.at
+          (row_of c.fill_term.result.used c.fill_term.new.code) c.fill_term.ensures.is;
+      inside = c.fill_term.ensures.inside;
     }

@@ -6,7 +6,7 @@ pub returns : goal.returns
 returns c =
     record {
       is =
-          head_by c.args.bytes.now c.args.names.now c.args.at c.skip.result (row_of c.args.used c.args.code.now) c.fill-expr-value.result.at
-          (row_of c.fill-expr-value.result.used c.fill-expr-value.new.code) c.skip-2.result c.skip.ensures.on c.fill-expr-value.ensures.is c.skip-2.ensures.on;
+          head_by c.args.bytes.now c.args.names.now c.args.at c.skip.result (row_of c.args.used c.args.code.now) c.fill_expr-value.result.at
+          (row_of c.fill_expr-value.result.used c.fill_expr-value.new.code) c.skip-2.result c.skip.ensures.on c.fill_expr-value.ensures.is c.skip-2.ensures.on;
       inside = c.skip-2.ensures.inside;
     }

@@ -12,9 +12,9 @@ returns-in-Me c = operand_me c.args.names.now c.args.word (row_of c.args.used c.
 pub returns-in-Now : goal.returns-in-Now
 returns-in-Now c = operand_now c.args.names.now c.args.word (row_of c.args.used c.args.code.now) (row_of c.push-in-Now.result c.push-in-Now.new.items) c.in-Now.ensures c.push-in-Now.ensures
 
-pub returns-in-default : goal.returns-in-default
+pub returns-in_default : goal.returns-in_default
 unfolding writes
-returns-in-default c =
-    operand_name c.args.names.now c.args.word (row_of c.args.used c.args.code.now) (row_of c.push-in-default.result c.push-in-default.new.items)
-    (λ e. c.in-default.not_It (c.word_by.ensures ∙ sym e)) (λ e. c.in-default.not_Me (c.word_by.ensures ∙ sym e)) (λ e. c.in-default.not_Now (c.word_by.ensures ∙ sym e))
-    c.place-of-place.result c.place-of-place.ensures.is (c.push-in-default.ensures ∙ ap (writes (c.place-of-place.result ∷ [])) c.push-opened.ensures)
+returns-in_default c =
+    operand_name c.args.names.now c.args.word (row_of c.args.used c.args.code.now) (row_of c.push-in_default.result c.push-in_default.new.items)
+    (λ e. c.in_default.not-It (c.word_by.ensures ∙ sym e)) (λ e. c.in_default.not-Me (c.word_by.ensures ∙ sym e)) (λ e. c.in_default.not-Now (c.word_by.ensures ∙ sym e))
+    c.place_of-place.result c.place_of-place.ensures.is (c.push-in_default.ensures ∙ ap (writes (c.place_of-place.result ∷ [])) c.push-opened.ensures)

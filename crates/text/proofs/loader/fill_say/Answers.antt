@@ -7,6 +7,6 @@ returns c =
     record {
       is =
           say_by c.args.bytes.now c.args.names.now c.args.at (row_of c.args.used c.args.code.now) (row_of c.push-opened.result c.push-opened.new.items)
-          c.fill-head.result.at (row_of c.fill-head.result.used c.fill-head.new.code) c.push-opened.ensures c.fill-head.ensures.is;
-      inside = c.fill-head.ensures.inside;
+          c.fill_head.result.at (row_of c.fill_head.result.used c.fill_head.new.code) c.push-opened.ensures c.fill_head.ensures.is;
+      inside = c.fill_head.ensures.inside;
     }

@@ -11,4 +11,4 @@ invariant-loop-i l =
     (l.place ≤ length l.bytes)
     × ((ks : List (List ℕ)) (xs : List Thing) (k : List ℕ) → Packed ks (firsts l.kinds l.names) → l.kinds < 4294967296 → drop l.at l.bytes ≡ show_things xs ++ k →
     every spelled_thing xs ≡ true → every fit_thing xs ≡ true → length xs ≡ l.count →
-    ThingsLeft l.bytes l.place l.-i l.count ks xs k (row_of l.made l.processes) (row_of 0 l.initial.processes) (row_of l.used l.vars) (row_of 0 l.initial.vars))
+    ThingsLeft l.bytes l.place l._i l.count ks xs k (row_of l.made l.processes) (row_of 0 l.initial.processes) (row_of l.used l.vars) (row_of 0 l.initial.vars))

@@ -1,4 +1,4 @@
 use Rattle.text.proofs.writer.+skip_term.Given as goal
 
-abbrev pub decreases-skip-term : goal.decreases-skip-term
-decreases-skip-term l = l.fuel
+abbrev pub decreases-skip_term : goal.decreases-skip_term
+decreases-skip_term l = l.fuel

@@ -10,4 +10,4 @@ pub returns-then-n-lt10 : goal.returns-then-n-lt10
 returns-then-n-lt10 t c = told (sym (one_digit c.args.k c.args.n c.if-k-eq0.false c.if-n-lt10.true)) c.put.ensures
 
 pub returns : goal.returns
-returns t c = told (sym (more_digits c.args.k c.args.n c.if-k-eq0.false c.if-n-lt10.false)) (writes_both c.write-digits-end.ensures c.put-2.ensures)
+returns t c = told (sym (more_digits c.args.k c.args.n c.if-k-eq0.false c.if-n-lt10.false)) (writes_both c.write_digits-end.ensures c.put-2.ensures)

@@ -2,8 +2,8 @@ use Rattle.std.proofs.Common.{◌≤◌}
 use Rattle.text.specs.Written.{Ahead, lines_bytes}
 use Rattle.text.proofs.writer.+write_lines.Given as goal
 
-abbrev pub decreases-write-lines : goal.decreases-write-lines
-decreases-write-lines l = l.fuel
+abbrev pub decreases-write_lines : goal.decreases-write_lines
+decreases-write_lines l = l.fuel
 
 abbrev pub invariant-loop-fuel : goal.invariant-loop-fuel
 invariant-loop-fuel l =

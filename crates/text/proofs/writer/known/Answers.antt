@@ -14,7 +14,7 @@ returns c = sym (names_all c.args.names.now c.loop-k.k c.loop-k-test.false) ∙ 
 
 pub returns-then-names-k-eq0 : goal.returns-then-names-k-eq0
 returns-then-names-k-eq0 c =
-    ap (map unpack) c.first-names.ensures
+    ap (map unpack) c.first_names.ensures
     ∙ sym (ap (λ ys. map unpack (take c.loop-k.k c.args.names.now) ++ ys) (names_end c.args.names.now c.loop-k.k c.loop-k-test.true c.if-names-k-eq0.true)
     ∙ append-nil (map unpack (take c.loop-k.k c.args.names.now)))
     ∙ c.loop-k.invariant

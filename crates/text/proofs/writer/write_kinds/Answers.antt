@@ -14,11 +14,11 @@ loop-start-preserved c =
     ahead_more c.loop-start.invariant
     (kinds_more c.args.code.now c.args.kinds.now c.loop-start.rows.now c.loop-start.start-index (omega arith)
     ∙ ap (λ x. show_kinds (kind_text (held_kind c.args.code.now (get_or c.args.kinds.now c.loop-start.start-index 0) c.loop-start.rows.now) ∷ [])
-    ++ kinds_bytes c.args.code.now (drop (c.loop-start.start-index + 1) c.args.kinds.now) x) (sym c.skip-names-rows.ensures))
-    c.write-kind-end.ensures
+    ++ kinds_bytes c.args.code.now (drop (c.loop-start.start-index + 1) c.args.kinds.now) x) (sym c.skip_names-rows.ensures))
+    c.write_kind-end.ensures
 
 pub returns : goal.returns
 returns c = ahead_done c.loop-start.invariant (kinds_none c.args.code.now c.args.kinds.now c.loop-start.rows.now c.loop-start.start-index (omega arith))
 
-pub returns-then-is-none : goal.returns-then-is-none
-returns-then-is-none c = ahead_stop c.loop-start.invariant c.if-is-none.ensures
+pub returns-then-is_none : goal.returns-then-is_none
+returns-then-is_none c = ahead_stop c.loop-start.invariant c.if-is_none.ensures

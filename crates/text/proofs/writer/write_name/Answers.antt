@@ -8,10 +8,10 @@ pub loop-turn-init : goal.loop-turn-init
 loop-turn-init c = ahead_all
 
 pub loop-turn-preserved : goal.loop-turn-preserved
-loop-turn-preserved c = ahead_more c.loop-turn.invariant (unpack_more c.loop-turn.-turn c.loop-turn.p (omega arith) c.if-p-eq0.false) c.put-end.ensures
+loop-turn-preserved c = ahead_more c.loop-turn.invariant (unpack_more c.loop-turn._turn c.loop-turn.p (omega arith) c.if-p-eq0.false) c.put-end.ensures
 
 pub returns-then-p-eq0 : goal.returns-then-p-eq0
-returns-then-p-eq0 c = ahead_done c.loop-turn.invariant (ap (λ p. unpack_upto (8 - c.loop-turn.-turn) p) c.if-p-eq0.true ∙ unpack_zero (8 - c.loop-turn.-turn))
+returns-then-p-eq0 c = ahead_done c.loop-turn.invariant (ap (λ p. unpack_upto (8 - c.loop-turn._turn) p) c.if-p-eq0.true ∙ unpack_zero (8 - c.loop-turn._turn))
 
 pub returns : goal.returns
-returns c = ahead_done c.loop-turn.invariant (unpack_none (8 - c.loop-turn.-turn) c.loop-turn.p (omega arith))
+returns c = ahead_done c.loop-turn.invariant (unpack_none (8 - c.loop-turn._turn) c.loop-turn.p (omega arith))

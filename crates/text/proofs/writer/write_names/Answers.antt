@@ -9,7 +9,7 @@ loop-name-init c = ahead_all
 
 pub loop-name-preserved : goal.loop-name-preserved
 loop-name-preserved c =
-    ahead_more c.loop-name.invariant (row_more unpack c.args.names.now c.loop-name.name-index (omega arith)) (writes_both c.put-space.ensures c.write-name-end.ensures)
+    ahead_more c.loop-name.invariant (row_more unpack c.args.names.now c.loop-name.name-index (omega arith)) (writes_both c.put-space.ensures c.write_name-end.ensures)
 
 pub returns : goal.returns
 returns c = ahead_done c.loop-name.invariant (row_none unpack c.args.names.now c.loop-name.name-index (omega arith))

@@ -5,5 +5,5 @@ use Rattle.text.proofs.writer.write_note.Goals as goal
 pub returns : goal.returns
 unfolding show_notes
 returns c =
-    writes_both c.write-all-message.ensures (writes_both c.write-number-time.ensures (writes_both c.put-space.ensures (writes_both c.write-number-to.ensures
-    (writes_both c.put-gap.ensures (writes_both c.write-number-number.ensures c.put.ensures)))))
+    writes_both c.write_all-message.ensures (writes_both c.write_number-time.ensures (writes_both c.put-space.ensures (writes_both c.write_number-to.ensures
+    (writes_both c.put-gap.ensures (writes_both c.write_number-number.ensures c.put.ensures)))))

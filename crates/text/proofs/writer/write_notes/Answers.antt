@@ -7,10 +7,10 @@ pub loop-m-init : goal.loop-m-init
 loop-m-init c = ahead_all
 
 pub loop-m-preserved : goal.loop-m-preserved
-loop-m-preserved c = ahead_more c.loop-m.invariant (notes_more c.args.messages.now c.loop-m.m-index _ (omega arith)) c.write-note-end.ensures
+loop-m-preserved c = ahead_more c.loop-m.invariant (notes_more c.args.messages.now c.loop-m.m-index _ (omega arith)) c.write_note-end.ensures
 
 pub returns : goal.returns
 returns c = ahead_done c.loop-m.invariant (notes_none c.args.messages.now c.loop-m.m-index (omega arith))
 
-pub returns-then-is-none : goal.returns-then-is-none
-returns-then-is-none c = ahead_stop c.loop-m.invariant c.if-is-none.ensures
+pub returns-then-is_none : goal.returns-then-is_none
+returns-then-is_none c = ahead_stop c.loop-m.invariant c.if-is_none.ensures

@@ -9,7 +9,7 @@ loop-n-init c = ahead_all
 
 pub loop-n-preserved : goal.loop-n-preserved
 loop-n-preserved c =
-    ahead_more c.loop-n.invariant (row_more digits c.args.numbers.now c.loop-n.n-index (omega arith)) (writes_both c.put-space.ensures c.write-number-end.ensures)
+    ahead_more c.loop-n.invariant (row_more digits c.args.numbers.now c.loop-n.n-index (omega arith)) (writes_both c.put-space.ensures c.write_number-end.ensures)
 
 pub returns : goal.returns
 returns c = ahead_done c.loop-n.invariant (row_none digits c.args.numbers.now c.loop-n.n-index (omega arith))

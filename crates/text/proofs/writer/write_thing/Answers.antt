@@ -4,4 +4,4 @@ use Rattle.text.proofs.writer.write_thing.Goals as goal
 
 pub returns : goal.returns
 unfolding show_things
-returns c = writes_both c.write-all-thing.ensures (writes_both c.write-name-kind.ensures (writes_both c.write-numbers-row.ensures c.put.ensures))
+returns c = writes_both c.write_all-thing.ensures (writes_both c.write_name-kind.ensures (writes_both c.write_numbers-row.ensures c.put.ensures))

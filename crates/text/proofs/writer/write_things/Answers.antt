@@ -9,12 +9,12 @@ loop-p-init c = ahead_all
 pub loop-p-preserved : goal.loop-p-preserved
 loop-p-preserved c =
     ahead_more c.loop-p.invariant
-    (things_turn c.args.kinds.now c.args.names.now c.args.processes.now c.loop-p.rows.now c.skip-rows.result.now c.first-row.result.now c.loop-p.p-index _ c.kind-name-name.result
-    (omega arith) c.kind-name-name.ensures (c.first-row.ensures ∙ ap (λ k. take k c.loop-p.rows.now) c.min.ensures) c.skip-rows.ensures)
-    c.write-thing-end.ensures
+    (things_turn c.args.kinds.now c.args.names.now c.args.processes.now c.loop-p.rows.now c.skip-rows.result.now c.first-row.result.now c.loop-p.p-index _ c.kind_name-name.result
+    (omega arith) c.kind_name-name.ensures (c.first-row.ensures ∙ ap (λ k. take k c.loop-p.rows.now) c.min.ensures) c.skip-rows.ensures)
+    c.write_thing-end.ensures
 
 pub returns : goal.returns
 returns c = ahead_done c.loop-p.invariant (things_none c.args.kinds.now c.args.names.now c.args.processes.now c.loop-p.rows.now c.loop-p.p-index (omega arith))
 
-pub returns-then-is-none : goal.returns-then-is-none
-returns-then-is-none c = ahead_stop c.loop-p.invariant c.if-is-none.ensures
+pub returns-then-is_none : goal.returns-then-is_none
+returns-then-is_none c = ahead_stop c.loop-p.invariant c.if-is_none.ensures
