@@ -1,13 +1,12 @@
 -- The words of lines.
-use Rattle.std.proofs.Common.{◌≡◌, ℕ, zero, suc, ◌+◌, ◌-◌, ◌%◌, ◌<◌, ◌≤◌, Bool, true, false, cond, ◌&&◌, ◌⊎◌, List, [], ◌∷◌, ◌++◌, map, length, get_or, drop, set, codes, sym, refl, ap, ◌∙◌, subst, inl, inr, append_assoc, mod-eq_of_lt, arith, length-append, length-set}
-use Rattle.std.proofs.lemmas.Bool.{both_ways, and_parts}
-use Rattle.meaning.specs.Model as model
+use Rattle.std.proofs.Common.{◌≡◌, ℕ, ◌+◌, ◌-◌, ◌%◌, ◌<◌, ◌≤◌, Bool, true, false, ◌&&◌, ◌⊎◌, List, [], ◌∷◌, ◌++◌, length, get_or, drop, set, codes, sym, refl, ap, ◌∙◌, subst, inl, inr, mod-eq_of_lt, arith, length-append, length-set}
+use Rattle.std.proofs.lemmas.Bool.{and_parts}
 use Rattle.body.specs.Encode.{encode_expr, encode}
-use Rattle.grammar.specs.Syntax.{all, is_word, is_name, Term, show_term, spelled_term, Lines, none, assign, draw, say, send, when, choose, again, show_lines, spelled_lines, among, reserved}
+use Rattle.grammar.specs.Syntax.{all, is_name, Term, show_term, spelled_term, Lines, show_lines, spelled_lines, among}
 use Rattle.grammar.specs.Rules.{right_term, right_lines}
 use Rattle.checker.specs.declared.Word.{Word}
-use Rattle.checker.specs.declared.Word.TheVariants.{Say, Send, If, Else, End, Again, Name}
-use Rattle.checker.specs.Words.{pack, word_by}
+use Rattle.checker.specs.declared.Word.TheVariants.{Say, Send, If, Again, Name}
+use Rattle.checker.specs.Words.{word_by}
 use Rattle.text.specs.Named.{index_of, expr, body}
 use Rattle.text.specs.Writes.{Row, row_of, writes}
 use Rattle.text.specs.Parts.{Packed, WordAt, HeadAt, SimpleAt, LinesAt, BranchAt, RepeatAt, branch_words, repeat_words, Wrote, Room, closing, between}

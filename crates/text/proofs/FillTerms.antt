@@ -1,14 +1,13 @@
 -- The words of expressions.
-use Rattle.std.proofs.Common.{◌≡◌, ℕ, zero, suc, ◌+◌, ◌-◌, ◌<◌, ◌≤◌, Bool, true, false, cond, not, ◌&&◌, ◌||◌, eqb, ltb, ◌⊎◌, List, [], ◌∷◌, ◌++◌, map, length, get_or, drop, set, codes, sym, refl, ap, ◌∙◌, subst, inl, inr, append_assoc, add-zero, arith, length-append}
+use Rattle.std.proofs.Common.{◌≡◌, ℕ, suc, ◌+◌, ◌-◌, ◌<◌, ◌≤◌, Bool, true, false, cond, not, eqb, List, [], ◌∷◌, ◌++◌, map, length, get_or, drop, set, codes, sym, refl, ap, ◌∙◌, subst, append_assoc, add-zero, arith, length-append}
 use Rattle.std.proofs.lemmas.List.{drop_all, get_or-drop}
-use Rattle.std.proofs.lemmas.Bool.{both_ways, and_parts, cond-true, cond-false, eq-eqb, ne_eqb, eqb-true, cases_Bool}
-use Rattle.meaning.specs.Model.{Expr, fixed, var, it, me, clock}
+use Rattle.std.proofs.lemmas.Bool.{both_ways, and_parts, cond-false, eq-eqb, ne_eqb}
+use Rattle.meaning.specs.Model.{Expr, var, it, me, clock}
 use Rattle.body.specs.Encode.{encode_expr}
 use Rattle.grammar.specs.Syntax as text
 use Rattle.grammar.specs.Syntax.{all, among, reserved, is_letter, is_digit, in_word, is_word, is_name, is_operand, is_number, every, Sign, plus, minus, times, over, remains, less, equal, sign_byte, Term, number, word, two, show_term, spelled_term}
-use Rattle.grammar.specs.Check.{decimal, stand_ins}
-use Rattle.grammar.specs.Rules.{small, right_term}
-use Rattle.grammar.proofs.Words.{same_is, same_self, letter_in, digit_in, digit_no_letter, word_no_paren, word_full}
+use Rattle.grammar.specs.Rules.{right_term}
+use Rattle.grammar.proofs.Words.{same_is, same_self, digit_no_letter, word_full}
 use Rattle.checker.specs.declared.Word.{Word}
 use Rattle.checker.specs.declared.Word.TheVariants.{It, Me, Now}
 use Rattle.checker.specs.Words.{pack, word_by, spelling}

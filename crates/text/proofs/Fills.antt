@@ -1,15 +1,14 @@
 -- Lent slices, all filled.
-use Rattle.std.proofs.Common.{◌≡◌, ℕ, zero, suc, ◌+◌, ◌-◌, ◌*◌, ◌<◌, ◌≤◌, Bool, true, false, cond, ◌&&◌, leb, List, [], ◌∷◌, ◌++◌, map, length, drop, sym, refl, ap, ◌∙◌, subst, append_assoc, arith, length-append}
+use Rattle.std.proofs.Common.{◌≡◌, ℕ, ◌*◌, ◌≤◌, true, leb, List, ◌++◌, map, length, drop, sym, ap, ◌∙◌, subst, arith, length-append}
 use Rattle.std.proofs.lemmas.Bool.{and_parts, leb-true}
 use Rattle.std.proofs.lemmas.List.{length-map}
 use Rattle.meaning.specs.declared.Message.{Message}
 use Rattle.body.specs.declared.Process.{Process}
 use Rattle.grammar.specs.Syntax.{every, Text, IsText, show, show_kinds, show_things, show_notes, spelled_kind, spelled_thing, spelled_note}
 use Rattle.grammar.specs.Rules.{Keeps, right_note}
-use Rattle.checker.specs.Words.{pack}
 use Rattle.text.specs.Named.{sent, counted}
 use Rattle.text.specs.Slices.{Slices, slices, over, words, starts, name_rows, process_of, var_rows, filled, roomy}
-use Rattle.text.specs.Writes.{Row, row_of, writes}
+use Rattle.text.specs.Writes.{row_of, writes}
 use Rattle.text.specs.Parts.{Packed}
 use Rattle.text.specs.Tables.{NotesAt, firsts, ThingsAt, KindsAt}
 use Rattle.text.proofs.Rows.{writes_over}

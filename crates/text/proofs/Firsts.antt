@@ -1,7 +1,7 @@
 -- The first word of lines, and how they go on behind it.
-use Rattle.std.proofs.Common.{◌≡◌, ℕ, zero, suc, ◌+◌, ◌-◌, ◌<◌, ◌≤◌, Bool, true, false, cond, not, ◌&&◌, ◌||◌, List, [], ◌∷◌, ◌++◌, map, length, drop, codes, sym, refl, ap, ◌∙◌, subst, append_assoc, arith, length-append}
+use Rattle.std.proofs.Common.{◌≡◌, ℕ, Bool, true, false, not, List, [], ◌∷◌, ◌++◌, drop, codes, sym, refl, ap, ◌∙◌, subst, append_assoc}
 use Rattle.std.proofs.lemmas.Bool.{both_ways, and_parts}
-use Rattle.grammar.specs.Syntax.{all, among, reserved, is_word, is_name, Term, show_term, spelled_term, Lines, none, assign, draw, say, send, when, choose, again, show_lines, spelled_lines}
+use Rattle.grammar.specs.Syntax.{all, among, reserved, is_word, is_name, Term, show_term, Lines, none, assign, draw, say, send, when, choose, again, show_lines, spelled_lines}
 use Rattle.grammar.proofs.Words.{word_full}
 use Rattle.checker.specs.declared.Word.{Word}
 use Rattle.checker.specs.declared.Word.TheVariants.{Kind, Say, Send, To, After, If, Else, End, Again, Thing, Message, Draw, It, Me, Now, Name}

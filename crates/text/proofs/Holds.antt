@@ -1,20 +1,17 @@
 -- What filled slices hold.
-use Rattle.std.proofs.Common.{◌≡◌, ℕ, zero, suc, ◌+◌, ◌-◌, ◌*◌, ◌/◌, ◌%◌, ◌<◌, ◌≤◌, min, Bool, true, false, cond, not, ◌&&◌, eqb, leb, ◌⊎◌, List, [], ◌∷◌, ◌++◌, map, length, get_or, take, drop, sym, refl, ap, ◌∙◌, subst, inl, inr, ⊎_elim, append_assoc, arith, length-append}
-use Rattle.std.proofs.lemmas.Bool.{both_ways, and_parts, leb-true, ne_eqb, or_cases, cond-true, cond-false}
+use Rattle.std.proofs.Common.{◌≡◌, ℕ, zero, suc, ◌+◌, ◌*◌, ◌/◌, ◌%◌, ◌<◌, ◌≤◌, min, true, false, eqb, leb, ◌⊎◌, List, [], ◌∷◌, ◌++◌, map, length, get_or, take, drop, sym, refl, ap, ◌∙◌, inl, inr, append_assoc, arith, length-append}
+use Rattle.std.proofs.lemmas.Bool.{both_ways, and_parts, leb-true, ne_eqb, or_cases, cond-false}
 use Rattle.std.proofs.lemmas.List.{drop_at, take_at, take-append-le, drop-drop, length-map}
-use Rattle.meaning.specs.declared.Message.{Message}
-use Rattle.body.specs.declared.Process.{Process}
 use Rattle.body.specs.Code.{body_of}
-use Rattle.body.specs.Encode.{encode}
 use Rattle.body.proofs.Encode.{decodes}
 use Rattle.sequential.specs.Memory.{body_from}
-use Rattle.grammar.specs.Syntax.{all, in_word, is_letter, is_digit, is_word, is_name, every, Kind, Thing, Note, Text, spelled, spelled_kind, spelled_thing, spelled_lines}
-use Rattle.grammar.specs.Check.{decimal, known}
-use Rattle.grammar.specs.Rules.{small, Keeps}
+use Rattle.grammar.specs.Syntax.{all, in_word, is_letter, is_digit, is_name, every, Kind, Thing, spelled_kind, spelled_lines}
+use Rattle.grammar.specs.Check.{decimal}
+use Rattle.grammar.specs.Rules.{small}
 use Rattle.checker.specs.Words.{pack, unpack, unpack_upto}
 use Rattle.checker.proofs.Packs.{word_bytes}
-use Rattle.text.specs.Named.{NamedKind, Made, Sent, body, named_kind, made, sent, counted, named}
-use Rattle.text.specs.Slices.{Slices, row, over, kind_words, words, starts, name_rows, process_of, var_rows, filled, roomy, names_of, held_kinds, held_things, held_note, held, used}
+use Rattle.text.specs.Named.{Sent, body, named_kind, made, sent, counted}
+use Rattle.text.specs.Slices.{row, over, kind_words, words, starts, name_rows, process_of, var_rows, names_of, held_kinds, held_things, held_note}
 use Rattle.text.specs.Tables.{padded, fit_thing}
 use Rattle.text.specs.Promise.{FilledHolds}
 use Rattle.text.proofs.Firsts.{name_word}

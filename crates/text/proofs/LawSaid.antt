@@ -6,7 +6,7 @@ use Rattle.std.proofs.lemmas.Bool.{and_parts, and_from, ltb-true, lt-ltb, eqb-tr
 use Rattle.grammar.specs.Syntax.{Kind, Thing, Note, Text, IsText, is_name, is_number, among, every, spelled_lines, spelled_kind, spelled_thing, spelled_note, show_kinds, show_things, show_notes, show}
 use Rattle.grammar.specs.Check.{decimal, too_large, most_deep, most_lines, most_things, known, count_of}
 use Rattle.grammar.specs.Rules.{Keeps, distinct, small, right_lines, depth, kind_lines, short, right_kind, right_thing, right_note}
-use Rattle.text.specs.Named.{named, text_of, index_of, body, lines, digits, named_kind, made, sent, kind_text, thing_text, note_text}
+use Rattle.text.specs.Named.{named, text_of, index_of, body, digits, named_kind, made, sent, kind_text, thing_text, note_text}
 use Rattle.text.specs.Bounds.{SaidBounded, WrittenAnew, InBounds, bounded_body, bounded_kind, bounded_thing, bounded_note}
 use Rattle.text.proofs.Canonical.{digits_decimal}
 use Rattle.text.proofs.LawNames.{index_in, at_index, every_map, every_both, map_same, map_back, count_is, from_two, from_three}

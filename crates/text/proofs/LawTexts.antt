@@ -8,7 +8,7 @@ use Rattle.grammar.specs.Syntax.{is_name, is_number, among, every, spelled_kind,
 use Rattle.grammar.specs.Check.{decimal, too_large, most_names, most_deep, most_things, known, count_of}
 use Rattle.grammar.specs.Rules.{Keeps, distinct, small, right_lines, depth, right_kind, right_thing, right_note}
 use Rattle.grammar.proofs.Texts.{one_tree}
-use Rattle.text.specs.Named.{NamedKind, Made, Sent, Named, named, text_of, body, lines, digits, named_kind, made, sent, kind_text, thing_text, note_text}
+use Rattle.text.specs.Named.{NamedKind, Made, Sent, Named, named, text_of, lines, digits, named_kind, made, sent, kind_text, thing_text, note_text}
 use Rattle.text.specs.Bounds.{OneModel, HasText, bounded_body, body_depth, bounded_kind, bounded_thing, bounded_note}
 use Rattle.text.proofs.Canonical.{decimal_digits, number_digits}
 use Rattle.text.proofs.LawNames.{among_at, index_at, every_at, every_map, map_back, count_is, from_two, from_three}

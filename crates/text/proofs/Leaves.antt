@@ -1,14 +1,14 @@
 -- Words, numbers and expressions at a place.
-use Rattle.std.proofs.Common.{◌≡◌, ℕ, zero, suc, ◌+◌, ◌-◌, ◌<◌, ◌≤◌, Bool, true, false, cond, eqb, ltb, List, [], ◌∷◌, ◌++◌, length, take, drop, Some, None, Ok, Err, Option, Result, sym, refl, ap, ◌∙◌, subst, arith}
-use Rattle.std.proofs.lemmas.List.{drop-drop, drop_all, length-drop, drop_more}
-use Rattle.std.proofs.lemmas.Bool.{cond-true, cond-false, eq-eqb, ne_eqb, both_ways}
+use Rattle.std.proofs.Common.{◌≡◌, ℕ, suc, ◌+◌, ◌-◌, ◌<◌, ◌≤◌, true, false, eqb, ltb, List, ◌∷◌, ◌++◌, length, drop, Some, None, sym, ap, ◌∙◌, arith}
+use Rattle.std.proofs.lemmas.List.{drop-drop, drop_all, length-drop}
+use Rattle.std.proofs.lemmas.Bool.{cond-true, cond-false, eq-eqb, ne_eqb}
 use Rattle.grammar.specs.Syntax.{in_word, is_word, is_number, Term, show_term, spelled_term}
 use Rattle.grammar.specs.Parse.{Got, got, bad, read_word, read_number, read_expr}
 use Rattle.grammar.specs.Check.{decimal, too_large}
 use Rattle.grammar.specs.Rules.{small}
 use Rattle.grammar.proofs.Words.{word_full, number_full}
 use Rattle.grammar.proofs.Full.{expr_full}
-use Rattle.checker.specs.Places.{span, span_at, at_place, forget}
+use Rattle.checker.specs.Places.{forget}
 use Rattle.checker.specs.Refusals.{small_number}
 use Rattle.text.specs.Parts.{place_of}
 

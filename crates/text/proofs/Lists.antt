@@ -1,12 +1,12 @@
 -- Numbers and names in rows.
-use Rattle.std.proofs.Common.{◌≡◌, ℕ, zero, suc, ◌+◌, ◌-◌, ◌<◌, ◌≤◌, Bool, true, false, cond, not, ◌&&◌, List, [], ◌∷◌, ◌++◌, map, length, get_or, take, drop, replicate, sym, refl, ap, ◌∙◌, subst, append_assoc, sub-one, arith}
+use Rattle.std.proofs.Common.{◌≡◌, ℕ, zero, suc, ◌+◌, ◌-◌, ◌≤◌, Bool, true, false, List, [], ◌∷◌, ◌++◌, map, length, get_or, take, drop, replicate, sym, refl, ap, ◌∙◌, append_assoc, arith}
 use Rattle.std.proofs.lemmas.Bool.{and_parts}
-use Rattle.grammar.specs.Syntax.{in_word, is_number, is_name, is_word, among, reserved, every, show_row}
+use Rattle.grammar.specs.Syntax.{in_word, is_number, is_name, every, show_row}
 use Rattle.grammar.specs.Check.{decimal}
 use Rattle.grammar.specs.Rules.{small}
 use Rattle.checker.specs.Words.{pack}
 use Rattle.text.specs.Slices.{row}
-use Rattle.text.specs.Writes.{Row, row_of, writes}
+use Rattle.text.specs.Writes.{Row, writes}
 use Rattle.text.specs.Parts.{WordAt, NumberAt}
 use Rattle.text.specs.Tables.{padded, WroteRow, NumbersAt, NamesAt}
 use Rattle.text.proofs.FillTerms.{first_byte}

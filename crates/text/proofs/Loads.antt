@@ -1,7 +1,7 @@
 -- From what a check of bytes answers to what is loaded.
-use Rattle.std.proofs.Common.{◌≡◌, ℕ, suc, ◌+◌, ◌*◌, ◌≤◌, Bool, true, false, ◌&&◌, leb, List, [], ◌∷◌, ◌++◌, length, drop, Ok, Err, codes, sym, refl, ap, ◌∙◌, subst, inl, inr, arith, length-append}
+use Rattle.std.proofs.Common.{◌≡◌, ℕ, ◌*◌, ◌≤◌, true, false, ◌&&◌, leb, List, [], ◌∷◌, length, drop, Ok, Err, codes, sym, refl, ap, ◌∙◌, inl, inr, arith, length-append}
 use Rattle.grammar.specs.Syntax.{Kind, Text, IsText, show_kinds}
-use Rattle.grammar.specs.Check.{Checked, taken, refused, check, most_lines}
+use Rattle.grammar.specs.Check.{Checked, taken, refused, check}
 use Rattle.grammar.specs.Rules.{Keeps, lines_of, kind_lines}
 use Rattle.grammar.proofs.Exact.{taken_exactly}
 use Rattle.checker.specs.declared.Refusal.{Refusal}
@@ -9,9 +9,8 @@ use Rattle.checker.specs.declared.Rule.TheVariants.{Lent}
 use Rattle.checker.specs.declared.texts.Extent.{Extent}
 use Rattle.checker.specs.Refusals.{number_of}
 use Rattle.checker.specs.Texts.{Answered, Measures}
-use Rattle.text.specs.Named.{named}
 use Rattle.text.specs.Slices.{Slices, filled, roomy, held, used}
-use Rattle.text.specs.Loaded.{TakenIn, Loaded, roomy_for}
+use Rattle.text.specs.Loaded.{Loaded, roomy_for}
 use Rattle.text.proofs.Holds.{filled_holds}
 
 -- The text that was taken.

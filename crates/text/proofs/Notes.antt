@@ -1,5 +1,5 @@
 -- Messages, one after the other.
-use Rattle.std.proofs.Common.{◌≡◌, ℕ, zero, suc, ◌+◌, ◌-◌, ◌%◌, ◌<◌, ◌≤◌, Bool, true, false, cond, ◌&&◌, ltb, List, [], ◌∷◌, ◌++◌, map, length, drop, sym, refl, ap, ◌∙◌, subst, append_assoc, mod-eq_of_lt, add-one, arith}
+use Rattle.std.proofs.Common.{◌≡◌, ℕ, suc, ◌+◌, ◌%◌, ◌<◌, ◌≤◌, true, ◌&&◌, ltb, List, [], ◌∷◌, ◌++◌, map, length, drop, sym, refl, ap, ◌∙◌, mod-eq_of_lt, add-one, arith}
 use Rattle.std.proofs.lemmas.Bool.{and_parts, ltb-true, lt-ltb}
 use Rattle.std.proofs.lemmas.List.{nil_from_length}
 use Rattle.meaning.specs.declared.Message.{Message}
@@ -7,9 +7,9 @@ use Rattle.grammar.specs.Syntax.{is_number, every, Note, show_notes, spelled_not
 use Rattle.grammar.specs.Check.{decimal, too_large}
 use Rattle.grammar.specs.Rules.{small, right_note}
 use Rattle.text.specs.Named.{sent, counted}
-use Rattle.text.specs.Writes.{Row, row_of, writes}
+use Rattle.text.specs.Writes.{Row, writes}
 use Rattle.text.specs.Parts.{NumberAt}
-use Rattle.text.specs.Tables.{show_note, IsNote, NoteAt}
+use Rattle.text.specs.Tables.{NoteAt}
 
 pub note_by : (bs : List ℕ) (at at1 time at2 at3 to at4 at5 number at6 at7 : ℕ) → drop at1 bs ≡ drop 8 (drop at bs) → NumberAt bs at1 time at2 → drop at3 bs ≡ drop 1 (drop at2 bs) →
     NumberAt bs at3 to at4 → drop at5 bs ≡ drop 1 (drop at4 bs) → NumberAt bs at5 number at6 → drop at7 bs ≡ drop 1 (drop at6 bs) → NoteAt bs at time to number at7

@@ -1,20 +1,18 @@
 -- Lines with no lines in them.
-use Rattle.std.proofs.Common.{◌≡◌, ℕ, zero, suc, ◌+◌, ◌-◌, ◌<◌, ◌≤◌, Bool, true, false, cond, not, ◌&&◌, ◌||◌, eqb, List, [], ◌∷◌, ◌++◌, map, length, get_or, drop, set, codes, sym, refl, ap, ◌∙◌, subst, append_assoc, arith, length-append, length-drop}
+use Rattle.std.proofs.Common.{◌≡◌, ℕ, true, false, List, [], ◌∷◌, ◌++◌, length, get_or, drop, codes, sym, refl, ap, ◌∙◌, arith, length-append, length-drop}
 use Rattle.std.proofs.lemmas.Bool.{both_ways, and_parts}
 use Rattle.body.specs.Encode.{encode_expr}
 use Rattle.grammar.specs.Syntax as text
 use Rattle.grammar.specs.Syntax.{all, is_letter, is_digit, is_word, is_operand, Term, number, word, two, show_term, spelled_term}
-use Rattle.grammar.specs.Rules.{right_term}
-use Rattle.grammar.proofs.Words.{digit_no_letter, operand_no_draw, same_self}
-use Rattle.checker.specs.declared.Word.{Word}
+use Rattle.grammar.proofs.Words.{digit_no_letter, operand_no_draw}
 use Rattle.checker.specs.declared.Word.TheVariants.{Draw, Say, Send, Name}
-use Rattle.checker.specs.Words.{pack, word_by, spelling}
+use Rattle.checker.specs.Words.{pack, word_by}
 use Rattle.checker.proofs.Packs.{not_Draw}
-use Rattle.text.specs.Named.{index_of, expr}
-use Rattle.text.specs.Writes.{Row, row_of, writes}
-use Rattle.text.specs.Parts.{place_of, Packed, WordAt, TermAt, ExprAt, HeadAt, SayAt, SendAt, DrawAt, PutAt}
+use Rattle.text.specs.Named.{expr}
+use Rattle.text.specs.Writes.{Row, writes}
+use Rattle.text.specs.Parts.{place_of, WordAt, TermAt, ExprAt, HeadAt, SayAt, SendAt, DrawAt, PutAt}
 use Rattle.text.proofs.Rows.{writes_on}
-use Rattle.text.proofs.FillTerms.{Begins, digit, letter, paren, begins_so, first_byte, so, packed_place}
+use Rattle.text.proofs.FillTerms.{Begins, digit, paren, begins_so, first_byte, so, packed_place}
 
 pub expr_deep : (bs ps : List ℕ) (at : ℕ) (r : Row ℕ) (at' : ℕ) (r' : Row ℕ) → TermAt bs at ps (length bs) r at' r' → ExprAt bs at ps r at' r'
 expr_deep bs ps at r at' r' f ns t k b pk e s g n =

@@ -1,18 +1,16 @@
 -- How many words, names and places a text wants.
-use Rattle.std.proofs.Common.{◌≡◌, ℕ, zero, suc, ◌+◌, ◌-◌, ◌*◌, ◌<◌, ◌≤◌, Bool, true, false, cond, ◌&&◌, eqb, leb, List, [], ◌∷◌, ◌++◌, map, length, get_or, take, drop, codes, sym, refl, ap, ◌∙◌, subst, append_assoc, arith, length-append}
-use Rattle.std.proofs.lemmas.Bool.{both_ways, and_parts, and_from, leb-true, le-leb, eqb-true, cond_both}
-use Rattle.std.proofs.lemmas.List.{drop_at, length-map}
-use Rattle.meaning.specs.declared.Message.{Message}
-use Rattle.meaning.specs.Model.{Expr, fixed, var, it, me, clock}
+use Rattle.std.proofs.Common.{◌≡◌, ℕ, suc, ◌+◌, ◌*◌, ◌≤◌, true, eqb, leb, List, [], ◌∷◌, ◌++◌, map, length, get_or, drop, codes, sym, refl, ap, ◌∙◌, append_assoc, arith, length-append}
+use Rattle.std.proofs.lemmas.Bool.{and_parts, and_from, leb-true, le-leb, eqb-true, cond_both}
+use Rattle.std.proofs.lemmas.List.{drop_at}
+use Rattle.meaning.specs.Model.{var, it, me, clock}
 use Rattle.body.specs.Encode.{encode_expr, encode}
 use Rattle.grammar.specs.Syntax as text
 use Rattle.grammar.specs.Syntax.{is_name, every, among, Sign, plus, minus, times, over, remains, less, equal, sign_byte, Term, number, word, two, Lines, none, assign, draw, say, send, when, choose, again, Kind, Thing, show_term, show_lines, show_row, show_kinds, spelled_kind}
-use Rattle.grammar.specs.Check.{decimal, Known, known, count_of}
+use Rattle.grammar.specs.Check.{decimal, known, count_of}
 use Rattle.grammar.specs.Rules.{small, right_thing}
 use Rattle.checker.specs.Words.{pack}
-use Rattle.text.specs.Named.{Sent, index_of, operation, expr, body, counted}
+use Rattle.text.specs.Named.{Sent, index_of, expr, body, counted}
 use Rattle.text.specs.Slices.{row, kind_words, words, starts, name_rows, var_rows}
-use Rattle.text.specs.Parts.{Packed}
 use Rattle.text.specs.Tables.{padded, firsts, fit_thing}
 use Rattle.text.proofs.FillTerms.{encode_two, term_some, two_length}
 use Rattle.text.proofs.Lists.{padded_row}

@@ -1,5 +1,5 @@
 -- Things, one after the other.
-use Rattle.std.proofs.Common.{◌≡◌, ℕ, zero, suc, ◌+◌, ◌-◌, ◌%◌, ◌<◌, ◌≤◌, Bool, true, false, cond, ◌&&◌, eqb, leb, List, [], ◌∷◌, ◌++◌, map, length, get_or, drop, codes, sym, refl, ap, ◌∙◌, subst, append_assoc, add-zero, mod-eq_of_lt, arith}
+use Rattle.std.proofs.Common.{◌≡◌, ℕ, suc, ◌+◌, ◌-◌, ◌%◌, ◌<◌, ◌≤◌, true, eqb, leb, List, [], ◌∷◌, ◌++◌, map, length, get_or, drop, codes, sym, refl, ap, ◌∙◌, append_assoc, add-zero, mod-eq_of_lt, arith}
 use Rattle.std.proofs.lemmas.Bool.{and_parts, leb-true, eq-eqb, ne_eqb, cond-true, cond-false}
 use Rattle.std.proofs.lemmas.List.{nil_from_length, get_or-drop, length-map}
 use Rattle.body.specs.declared.Process.{Process}
@@ -7,10 +7,10 @@ use Rattle.grammar.specs.Syntax.{is_name, is_number, every, Thing, show_row, sho
 use Rattle.grammar.specs.Check.{decimal}
 use Rattle.grammar.specs.Rules.{small}
 use Rattle.text.specs.Named.{index_of}
-use Rattle.text.specs.Slices.{row, var_rows}
-use Rattle.text.specs.Writes.{Row, row_of, writes}
+use Rattle.text.specs.Slices.{var_rows}
+use Rattle.text.specs.Writes.{Row, writes}
 use Rattle.text.specs.Parts.{place_of, Packed, WordAt}
-use Rattle.text.specs.Tables.{firsts, padded, WroteRow, NumbersAt, fit_thing, process_in}
+use Rattle.text.specs.Tables.{firsts, padded, NumbersAt, fit_thing, process_in}
 use Rattle.text.proofs.Rows.{writes_on}
 use Rattle.text.proofs.FillTerms.{packed_place}
 use Rattle.text.proofs.Firsts.{name_word}

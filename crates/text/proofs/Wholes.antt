@@ -1,17 +1,15 @@
 -- Kinds, one after the other.
-use Rattle.std.proofs.Common.{◌≡◌, ℕ, zero, suc, ◌+◌, ◌-◌, ◌*◌, ◌%◌, ◌<◌, ◌≤◌, Bool, true, false, cond, ◌&&◌, leb, List, [], ◌∷◌, ◌++◌, map, length, take, drop, codes, sym, refl, ap, ◌∙◌, subst, append_assoc, mod-eq_of_lt, arith, length-append}
+use Rattle.std.proofs.Common.{◌≡◌, ℕ, ◌+◌, ◌*◌, ◌%◌, ◌<◌, ◌≤◌, true, false, leb, List, [], ◌∷◌, ◌++◌, map, length, take, drop, sym, refl, ap, ◌∙◌, append_assoc, mod-eq_of_lt, arith, length-append}
 use Rattle.std.proofs.lemmas.Bool.{and_parts, leb-true}
 use Rattle.std.proofs.lemmas.List.{nil_from_length, length-map, take-take, length-drop}
-use Rattle.body.specs.Encode.{encode}
-use Rattle.grammar.specs.Syntax.{is_name, every, Kind, show_row, show_lines, show_kinds, spelled_lines, spelled_kind}
+use Rattle.grammar.specs.Syntax.{is_name, every, Kind, show_lines, show_kinds, spelled_lines, spelled_kind}
 use Rattle.grammar.specs.Check.{most_deep}
 use Rattle.grammar.specs.Rules.{distinct, depth, right_lines, right_kind}
 use Rattle.checker.specs.Words.{pack}
-use Rattle.text.specs.Named.{body}
 use Rattle.text.specs.Slices.{row, kind_words, words, starts, name_rows}
 use Rattle.text.specs.Writes.{Row, row_of, writes}
-use Rattle.text.specs.Parts.{Packed, WordAt, LinesAt, Room, closing}
-use Rattle.text.specs.Tables.{padded, WroteRow, NamesAt, show_kind, WroteKind, KindAt}
+use Rattle.text.specs.Parts.{Packed, WordAt, LinesAt, closing}
+use Rattle.text.specs.Tables.{padded, NamesAt, show_kind, KindAt}
 use Rattle.text.proofs.Rows.{writes_on, room_on, writes_read}
 use Rattle.text.proofs.Firsts.{name_word}
 use Rattle.text.proofs.Lists.{padded_row, padded_length, padded_front, row_next}

@@ -1,5 +1,5 @@
 -- What may be given with a text.
-use Rattle.std.specs.Prelude.{ℕ, Bool, cond, ◌&&◌, Ok, Err, Result, nat_le}
+use Rattle.std.specs.Prelude.{ℕ, cond, ◌&&◌, Ok, Err, Result, nat_le}
 use Rattle.checker.specs.declared.Refusal.{Refusal}
 use Rattle.checker.specs.declared.Rule.TheVariants.{Lent}
 use Rattle.text.specs.declared.play.Asked.{Asked}

@@ -1,5 +1,5 @@
 -- Models that have a text: what is kept of them, with its bounds; and what is promised of texts and models.
-use Rattle.std.specs.Prelude.{◌≡◌, ℕ, zero, suc, ◌≤◌, max, Bool, true, false, ◌&&◌, ltb, List, [], ◌∷◌, map, length, ◌==◌, nat_le, nat_lt, slice_index}
+use Rattle.std.specs.Prelude.{◌≡◌, ℕ, suc, ◌≤◌, max, Bool, true, ◌&&◌, ltb, List, map, length, ◌==◌, nat_le, nat_lt, slice_index}
 use Rattle.meaning.specs.Model.{Expr, fixed, var, it, me, clock, plus, minus, times, over, remains, less, same, Body, stop, assign, draw, say, send, branch, repeat}
 use Rattle.grammar.specs.Syntax.{Text, IsText, is_name, every, show}
 use Rattle.grammar.specs.Check.{too_large, most_names, most_deep, most_lines, most_things, most_notes, text_bytes}

@@ -1,5 +1,5 @@
 -- What reading a text into lent slices promises.
-use Rattle.std.specs.Prelude.{◌≡◌, ℕ, ◌*◌, ◌≤◌, Bool, true, false, ◌&&◌, ◌⊎◌, List, [], length, drop, Ok, Err, Result, nat_le}
+use Rattle.std.specs.Prelude.{◌≡◌, ℕ, ◌*◌, ◌≤◌, Bool, false, ◌&&◌, ◌⊎◌, List, [], length, drop, Ok, Err, Result, nat_le}
 use Rattle.grammar.specs.Syntax.{Text, IsText}
 use Rattle.grammar.specs.Check.{check, taken, refused}
 use Rattle.grammar.specs.Rules.{Keeps}

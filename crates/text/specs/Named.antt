@@ -1,5 +1,5 @@
 -- A model with the names that it was written with: what a text says, and the text of one.
-use Rattle.std.specs.Prelude.{ℕ, zero, suc, ◌+◌, ◌/◌, ◌%◌, Bool, true, false, cond, List, [], ◌∷◌, ◌++◌, map, length, codes, nat_lt, slice_index_or}
+use Rattle.std.specs.Prelude.{ℕ, zero, suc, ◌+◌, ◌/◌, ◌%◌, cond, List, [], ◌∷◌, ◌++◌, map, length, codes, nat_lt, slice_index_or}
 use Rattle.meaning.specs.declared.Message.{Message}
 use Rattle.meaning.specs.Model.{Expr, fixed, var, it, me, clock, plus, minus, times, over, remains, less, same, Body, stop, assign, draw, say, send, branch, repeat, Model}
 use Rattle.grammar.specs.Syntax as text

@@ -1,5 +1,5 @@
 -- Lines as they are printed.
-use Rattle.std.specs.Prelude.{ℕ, zero, suc, ◌-◌, cond, List, [], ◌∷◌, ◌++◌, length, codes, nat_le}
+use Rattle.std.specs.Prelude.{ℕ, suc, ◌-◌, cond, List, [], ◌∷◌, ◌++◌, length, codes, nat_le}
 use Rattle.meaning.specs.declared.Line.{Line}
 use Rattle.text.specs.Named.{digits}
 

@@ -1,14 +1,13 @@
 -- What lent slices hold of a model: words, where each kind's words begin, names, processes with their variables, and messages.
-use Rattle.std.specs.Prelude.{◌≡◌, ℕ, zero, suc, ◌+◌, ◌*◌, min, Bool, true, false, cond, ◌&&◌, List, [], ◌∷◌, ◌++◌, map, length, take, drop, replicate, ◌==◌, nat_le, slice_index}
+use Rattle.std.specs.Prelude.{ℕ, ◌+◌, ◌*◌, min, Bool, cond, ◌&&◌, List, [], ◌∷◌, ◌++◌, map, length, take, drop, replicate, ◌==◌, nat_le, slice_index}
 use Rattle.meaning.specs.declared.Message.{Message}
-use Rattle.meaning.specs.Model.{Body}
 use Rattle.body.specs.declared.Process.{Process}
 use Rattle.body.specs.Encode.{encode}
 use Rattle.sequential.specs.Memory.{body_from}
-use Rattle.grammar.specs.Syntax.{Kind, Thing, Note, Text, show_kinds}
+use Rattle.grammar.specs.Syntax.{Kind, Thing, Text, show_kinds}
 use Rattle.grammar.specs.Check.{decimal}
 use Rattle.checker.specs.Words.{pack, unpack}
-use Rattle.text.specs.Named.{NamedKind, Made, Sent, Named, index_of, body, made, sent, counted}
+use Rattle.text.specs.Named.{NamedKind, Made, Sent, Named, body, made, sent, counted}
 
 -- All that is lent.
 pub record Slices : Type 0 where

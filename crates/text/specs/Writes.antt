@@ -1,5 +1,5 @@
 -- Elements written one behind the other into lent ones. Where all lent ones are in use, nothing is written.
-use Rattle.std.specs.Prelude.{ℕ, ◌+◌, Bool, cond, List, [], ◌∷◌, length, nat_lt, slice_set}
+use Rattle.std.specs.Prelude.{ℕ, ◌+◌, cond, List, [], ◌∷◌, length, nat_lt, slice_set}
 
 -- Lent elements, the first so many of them in use.
 pub record Row (A : Type 0) : Type 0 where

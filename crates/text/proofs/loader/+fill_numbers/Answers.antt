@@ -1,4 +1,4 @@
-use Rattle.std.proofs.Common.{◌≤◌, sym, ◌∙◌, arith}
+use Rattle.std.proofs.Common.{sym, ◌∙◌, arith}
 use Rattle.text.specs.Writes.{row_of}
 use Rattle.text.proofs.Lists.{numbers_none, numbers_over, numbers_more}
 use Rattle.text.proofs.loader.+fill_numbers.Goals as goal

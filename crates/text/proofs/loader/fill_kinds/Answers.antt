@@ -1,6 +1,6 @@
 use Rattle.std.proofs.Common.{ap}
 use Rattle.text.specs.Writes.{row_of}
-use Rattle.text.proofs.Wholes.{kinds_begin, kinds_more, kinds_done}
+use Rattle.text.proofs.Wholes.{kinds_more, kinds_done}
 use Rattle.text.proofs.loader.fill_kinds.Goals as goal
 
 pub loop-i-preserved : goal.loop-i-preserved

@@ -1,4 +1,4 @@
-use Rattle.std.proofs.Common.{◌≡◌, ℕ, ◌*◌, ◌<◌, ◌≤◌, true, List, ◌++◌, length, drop}
+use Rattle.std.proofs.Common.{◌≡◌, ℕ, ◌*◌, ◌<◌, ◌≤◌, true, List, ◌++◌, length}
 use Rattle.grammar.specs.Syntax.{every, Kind, show_kinds, spelled_kind}
 use Rattle.grammar.specs.Rules.{right_kind}
 use Rattle.text.specs.Slices.{words}

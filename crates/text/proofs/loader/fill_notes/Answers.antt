@@ -1,4 +1,4 @@
-use Rattle.std.proofs.Common.{◌≡◌, ◌%◌, refl, ap}
+use Rattle.std.proofs.Common.{◌%◌, refl, ap}
 use Rattle.text.specs.Writes.{row_of}
 use Rattle.text.proofs.Notes.{notes_more, notes_done}
 use Rattle.text.proofs.loader.fill_notes.Goals as goal

@@ -1,6 +1,4 @@
-use Rattle.std.proofs.Common.{◌≡◌, sym, ap, ◌∙◌}
-use Rattle.text.specs.Writes.{row_of}
-use Rattle.checker.specs.declared.Word.TheVariants.{Say, Send, Name}
+use Rattle.std.proofs.Common.{sym, ◌∙◌}
 use Rattle.text.proofs.Simple.{say_not_send, say_not_name, send_not_say, send_not_name}
 use Rattle.text.proofs.loader.fill_simple.Goals as goal
 

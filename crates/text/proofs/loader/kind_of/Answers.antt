@@ -1,4 +1,4 @@
-use Rattle.std.proofs.Common.{◌≡◌, ◌<◌, ◌≤◌, drop, sym, ◌∙◌, arith}
+use Rattle.std.proofs.Common.{drop, sym, ◌∙◌, arith}
 use Rattle.text.proofs.Things.{kind_here, kind_further, kind_none}
 use Rattle.text.proofs.loader.kind_of.Goals as goal
 

@@ -1,6 +1,5 @@
-use Rattle.std.proofs.Common.{◌≡◌, ℕ, suc, ◌+◌, ◌<◌, ◌≤◌, length, get_or, drop, sym, ap, ◌∙◌, arith}
+use Rattle.std.proofs.Common.{◌<◌, length, get_or, arith}
 use Rattle.std.proofs.lemmas.List.{drop_more}
-use Rattle.text.specs.Parts.{place_of}
 use Rattle.text.proofs.Leaves.{place_here, place_further, place_none}
 use Rattle.text.proofs.loader.place_of.Goals as goal
 

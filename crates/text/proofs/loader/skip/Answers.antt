@@ -1,5 +1,5 @@
 use Rattle.text.proofs.Leaves.{skip_on, skip_past}
-use Rattle.std.proofs.Common.{◌≤◌, arith}
+use Rattle.std.proofs.Common.{arith}
 use Rattle.text.proofs.loader.skip.Goals as goal
 
 pub returns-then-n-items : goal.returns-then-n-items

@@ -1,6 +1,6 @@
 use Rattle.std.proofs.Common.{◌∷◌, drop, ap, ◌∙◌}
 use Rattle.checker.specs.Words.{pack}
-use Rattle.checker.specs.Places.{span, span_at}
+use Rattle.checker.specs.Places.{span}
 use Rattle.text.proofs.Leaves.{word_read, got_parts, not_bad}
 use Rattle.text.proofs.loader.word_at.Goals as goal
 
