@@ -353,7 +353,7 @@ pub fn handle(
     requires narrow { length vars.old ≤ 64 }
     requires timely { m.time < 4294967296 }
     ensures answers { result ≡ answer (does code.now processes process.old vars.old m) (length sends.old) (length lines.old) }
-    ensures holds { ◌≡◌ {A = Lent} (record { process = process.exit.now; vars = vars.new; sends = sends.new; lines = lines.new }) (lent_after result (does code.now processes process.entry.now vars.old m) (record { process = process.entry.now; vars = vars.old; sends = sends.old; lines = lines.old })) }
+    ensures holds { ◌≡◌ {A = Lent} (record { process = process.new; vars = vars.new; sends = sends.new; lines = lines.new }) (lent_after result (does code.now processes process.old vars.old m) (record { process = process.old; vars = vars.old; sends = sends.old; lines = lines.old })) }
 {
     let event = Event {
         it: m.number,

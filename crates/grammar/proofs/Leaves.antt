@@ -1,6 +1,6 @@
 -- How the small readers read: bytes, words, numbers and signs.
 use Rattle.std.proofs.Common.{◌≡◌, ℕ, zero, suc, ◌+◌, ◌<◌, Bool, true, false, cond, not, ◌&&◌, eqb, leb, List, [], ◌∷◌, ◌++◌, length, codes, sym, refl, ap, ◌∙◌, subst, ⊎_elim, append_assoc, append-nil, arith, length-append}
-use Rattle.std.specs.List.{AllByRecursion as All}
+use Rattle.std.specs.List.{AllByRecursion}
 use Rattle.std.proofs.lemmas.Bool.{both_ways, and_parts, and_from, and_cases, or_cases, or_parts, or_left, not-false, not_from_false, le-leb, eqb-true, cond-true, cond-false, cond_both}
 use Rattle.grammar.specs.Syntax.{is_letter, is_digit, in_word, all, same, among, reserved, is_word, is_name, is_operand, is_number, Sign, plus, minus, times, over, remains, less, equal, sign_byte}
 use Rattle.grammar.specs.Parse.{Got, got, bad, expect, more_word, read_word, checked, read_name, more_digits, after_zero, read_number, read_sign}
@@ -78,7 +78,7 @@ unfolding all
 words {e} = record { goes_on = record { more = 120 ∷ []; value = 120 ∷ []; shows = refl; fine = refl }; reading = λ bs l. word_reading e bs }
 
 -- What holds of each of these holds of one of them.
-one_of : (P : List ℕ → Type 0) (w : List ℕ) (vs : List (List ℕ)) → All P vs → among w vs ≡ true → P w
+one_of : (P : List ℕ → Type 0) (w : List ℕ) (vs : List (List ℕ)) → AllByRecursion P vs → among w vs ≡ true → P w
 unfolding among
 one_of P w [] a h = absurd (both_ways true (sym h) refl)
 one_of P w (v ∷ vs) a h = ⊎_elim (λ s. subst P (sym (same_is w v s)) a.0) (one_of P w vs a.1) (or_cases (same w v) (among w vs) h)

@@ -1,6 +1,6 @@
 -- Fields that stand one behind another: written, read back, and put together again.
 use Rattle.std.proofs.Common.{◌≡◌, ℕ, ◌+◌, ◌^◌, ◌<◌, ◌≤◌, true, ltb, List, [], ◌++◌, length, get_or, take, drop, sym, refl, ap, ◌∙◌, subst, arith}
-use Rattle.std.specs.List.{AllByRecursion as All}
+use Rattle.std.specs.List.{AllByRecursion}
 use Rattle.std.proofs.lemmas.List.{append-nil, take-append-drop, drop-drop, drop_at, take_at, take_all, length-take-le, length-drop, length-append}
 use Rattle.std.proofs.ByRecursion.{All-drop, All-take, All-from_get_or}
 use Rattle.std.proofs.lemmas.Bool.{and_parts, ltb-true}
@@ -41,7 +41,7 @@ pub found_last : (bs : List ℕ) (i k n : ℕ) → drop i bs ≡ little n k → 
 found_last bs i k n e h = found bs i k n [] (e ∙ sym (append-nil (little n k))) h
 
 -- Bytes are those of the numbers read from them.
-module _ (bs : List ℕ) (good : All (λ b. b < 256) bs) where
+module _ (bs : List ℕ) (good : AllByRecursion (λ b. b < 256) bs) where
   pub same_bytes : (i k : ℕ) → i + k ≤ length bs → little (number_at bs i k) k ≡ take k (drop i bs)
   same_bytes i k h =
       let l : length (take k (drop i bs)) ≡ k = length-take-le k (drop i bs) (omega (arith, length-drop i bs)) in
@@ -80,7 +80,7 @@ module _ (bs : List ℕ) (good : All (λ b. b < 256) bs) where
 pub part_length : (bs : List ℕ) (at k : ℕ) → at + k ≤ length bs → length (take k (drop at bs)) ≡ k
 part_length bs at k h = length-take-le k (drop at bs) (omega (arith, length-drop at bs))
 
-pub part_bytes : (bs : List ℕ) (at k : ℕ) → ((i : ℕ) → get_or bs i 0 < 256) → All (λ b. b < 256) (take k (drop at bs))
+pub part_bytes : (bs : List ℕ) (at k : ℕ) → ((i : ℕ) → get_or bs i 0 < 256) → AllByRecursion (λ b. b < 256) (take k (drop at bs))
 part_bytes bs at k h = All-take _ k _ (All-drop _ at bs (All-from_get_or (λ b. b < 256) bs 0 (λ i _. h i)))
 
 -- Messages and lines are read back.

@@ -1,7 +1,7 @@
 -- Numbers in bytes, the lowest first, and what is written over a list.
 use Rattle.std.proofs.Common.{◌≡◌, ℕ, zero, suc, ◌+◌, ◌-◌, ◌*◌, ◌/◌, ◌%◌, ◌^◌, ◌<◌, ◌≤◌, List, [], ◌∷◌, ◌++◌, length, get_or, take, drop, set, sym, refl, ap, ◌∙◌, arith}
 use native.Mathlib.Nat.{pow-succ', pow-le-pow_right, one-le-pow}
-use Rattle.std.specs.List.{AllByRecursion as All}
+use Rattle.std.specs.List.{AllByRecursion}
 use Rattle.std.proofs.lemmas.List.{append_assoc, take-append-drop, take_more_set, drop-set-lt, drop_more, drop_all, drop-drop, drop_at, take_at, get_or-take, get_or-drop, length-take-le, length-drop, length-take, length-append}
 use Rattle.std.proofs.ByRecursion.{All-drop, All-take, All-from_get_or}
 use Rattle.std.proofs.lemmas.Nat.{div_below}
@@ -22,7 +22,7 @@ value_little n (suc k) h =
     let v = value_little (n / 256) k q in
     omega arith
 
-pub value_below : (bs : List ℕ) → All (λ b. b < 256) bs → value_of bs < 256 ^ length bs
+pub value_below : (bs : List ℕ) → AllByRecursion (λ b. b < 256) bs → value_of bs < 256 ^ length bs
 unfolding value_of
 value_below [] h = omega arith
 value_below (b ∷ bs) h =
@@ -32,7 +32,7 @@ value_below (b ∷ bs) h =
     omega arith
 
 -- Bytes are those of the number that they stand for.
-pub little_value : (bs : List ℕ) → All (λ b. b < 256) bs → little (value_of bs) (length bs) ≡ bs
+pub little_value : (bs : List ℕ) → AllByRecursion (λ b. b < 256) bs → little (value_of bs) (length bs) ≡ bs
 unfolding little value_of
 little_value [] h = refl
 little_value (b ∷ bs) h =
@@ -130,7 +130,7 @@ module _ (bs : List ℕ) (at size : ℕ) (inside : at + size ≤ length bs) wher
   read_none = value_none part size (omega (arith, part_length))
 
   module _ (bytes : (i : ℕ) → get_or bs i 0 < 256) where
-    all_bytes : (k : ℕ) → All (λ b. b < 256) (drop k (take size (drop at bs)))
+    all_bytes : (k : ℕ) → AllByRecursion (λ b. b < 256) (drop k (take size (drop at bs)))
     all_bytes k = All-drop _ k _ (All-take _ size _ (All-drop _ at bs (All-from_get_or (λ b. b < 256) bs 0 (λ i _. bytes i))))
 
     pub read_fits : size ≤ 8 → (k : ℕ) → value_of (drop k (take size (drop at bs))) < 18446744073709551616

@@ -1,6 +1,6 @@
 -- Letters are read back, and what is read is what the bytes are.
 use Rattle.std.proofs.Common.{◌≡◌, ℕ, ◌+◌, ◌-◌, ◌^◌, ◌<◌, ◌≤◌, Bool, true, false, cond, ◌&&◌, eqb, ltb, leb, ◌⊎◌, List, ◌∷◌, ◌++◌, length, get_or, take, drop, Some, None, Option, sym, refl, ap, ◌∙◌, subst, inl, inr, arith}
-use Rattle.std.specs.List.{AllByRecursion as All}
+use Rattle.std.specs.List.{AllByRecursion}
 use Rattle.std.proofs.lemmas.List.{append_assoc, append_cancel_left, drop_more, drop_at, drop-drop, get_or-drop, length-append, length-drop}
 use Rattle.std.proofs.ByRecursion.{All-drop, All-take}
 use Rattle.std.proofs.lemmas.Bool.{and_parts, and_from, ltb-true, lt-ltb, leb-true, eqb-true, eqb-false, eq-eqb, cond-true, cond-false, cases_Bool}
@@ -161,7 +161,7 @@ at_most l c h =
     omega (arith, length_letter l c f.long, small l f.bounds)
 
 -- The other way: what is read from bytes.
-module _ (bs : List ℕ) (good : All (λ b. b < 256) bs) where
+module _ (bs : List ℕ) (good : AllByRecursion (λ b. b < 256) bs) where
   number_below : (i k : ℕ) → i + k ≤ length bs → number_at bs i k < 256 ^ k
   number_below i k h =
       subst (λ n. number_at bs i k < 256 ^ n) (part_length bs i k h) (value_below (take k (drop i bs)) (All-take _ k _ (All-drop _ i bs good)))

@@ -1,6 +1,6 @@
 -- What is promised of letters.
 use Rattle.std.specs.Prelude.{◌≡◌, ℕ, ◌<◌, ◌≤◌, true, List, length, Some}
-use Rattle.std.specs.List.{AllByRecursion as All}
+use Rattle.std.specs.List.{AllByRecursion}
 use Rattle.meaning.specs.declared.Message.{Message}
 use Rattle.meaning.specs.declared.Line.{Line}
 use Rattle.letters.specs.declared.Letter.{Letter}
@@ -12,7 +12,7 @@ ReadBack = (l : Letter) (c : List ℕ) → well_formed l c ≡ true → (letter_
 
 -- What is read from bytes is the letter that they are.
 abbrev pub ReadSo : Type 0
-ReadSo = (bs : List ℕ) → All (λ b. b < 256) bs → (l : Letter) → letter_of bs ≡ Some l → IsLetter bs l (last (carries l) bs)
+ReadSo = (bs : List ℕ) → AllByRecursion (λ b. b < 256) bs → (l : Letter) → letter_of bs ≡ Some l → IsLetter bs l (last (carries l) bs)
 
 -- No two letters have the same bytes.
 abbrev pub NoTwo : Type 0

@@ -1,6 +1,6 @@
 -- Several players. A list in order falls into a part for each owner of processes, and each part can be replayed without the others.
 use Rattle.std.proofs.Common.{◌≡◌, ℕ, zero, suc, ◌+◌, ◌%◌, ◌<◌, ◌≤◌, true, cond, eqb, ◌⊎◌, List, [], ◌∷◌, length, get_or, set, sym, refl, ap, ◌∙◌, subst, inl, inr, ⊎_elim, arith}
-use Rattle.std.specs.List.{AllByRecursion as All}
+use Rattle.std.specs.List.{AllByRecursion}
 use Rattle.std.proofs.lemmas.List.{get_or-set_same, set_past}
 use Rattle.std.proofs.lemmas.Bool.{cond_both, eqb-true, eqb-false, cases_eq, cases_lt}
 use Rattle.std.proofs.lemmas.Nat.{mod_below}
@@ -27,10 +27,10 @@ unfolding part
 part_cases o w x H P f g =
     cond_both (eqb (o x.to) w) (x ∷ part o w H) (part o w H) P (λ e. f (eqb-true (o x.to) w e)) (λ e. g (eqb-false (o x.to) w e))
 
-pub part_all : (o : ℕ → ℕ) (w : ℕ) (P : Message → Type 0) (H : List Message) → All P H → All P (part o w H)
+pub part_all : (o : ℕ → ℕ) (w : ℕ) (P : Message → Type 0) (H : List Message) → AllByRecursion P H → AllByRecursion P (part o w H)
 unfolding part
 part_all o w P [] h = tt
-part_all o w P (x ∷ H) h = part_cases o w x H (All P) (λ _. (h.0, part_all o w P H h.1)) (λ _. part_all o w P H h.1)
+part_all o w P (x ∷ H) h = part_cases o w x H (AllByRecursion P) (λ _. (h.0, part_all o w P H h.1)) (λ _. part_all o w P H h.1)
 
 pub part_ordered : (o : ℕ → ℕ) (w : ℕ) (H : List Message) → Ordered H → Ordered (part o w H)
 unfolding part
@@ -202,7 +202,7 @@ merge_ordered o hs (suc n) h =
     insert_all_ordered (hs n) (merge hs n)
     (merge_ordered o hs n (record { ordered = λ w l. h.ordered w (omega arith); own = λ w x l i. h.own w x (omega arith) i }))
     (ordered_distinct (hs n) (h.ordered n (omega arith)))
-    (all_from_member (λ x. All (Apart x) (merge hs n)) (hs n)
+    (all_from_member (λ x. AllByRecursion (Apart x) (merge hs n)) (hs n)
     (λ x i. all_from_member (Apart x) (merge hs n) (λ y j. apart_to x y (λ e. differ x y i e (merge_member hs n y j)))))
   where
     differ : (x y : Message) → Member x (hs n) → x.to ≡ y.to → (w : ℕ) × (w < n) × Member y (hs w) → ⊥

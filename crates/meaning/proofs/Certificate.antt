@@ -1,6 +1,6 @@
 -- A list that is in order, below a time, and holds just what is pending or sent by handling it in order, is what the run handles.
 use Rattle.std.proofs.Common.{◌≡◌, ℕ, zero, suc, ◌<◌, ◌≤◌, true, ◌⊎◌, List, [], ◌∷◌, ◌++◌, length, sym, refl, ap, ◌∙◌, subst, inl, inr, ⊎_elim, arith}
-use Rattle.std.specs.List.{AllByRecursion as All}
+use Rattle.std.specs.List.{AllByRecursion}
 use Rattle.std.proofs.ByRecursion.{All-weaker, All-append}
 use Rattle.std.proofs.lemmas.Bool.{cases_lt}
 use Rattle.meaning.specs.declared.Message.{Message}
@@ -13,7 +13,7 @@ use Rattle.meaning.proofs.States.{Fine, fine_handling, fine_steps, fine_start, s
 use Rattle.meaning.proofs.Runs.{Idle, handled, Next, idle, first, next, step_first, steps_idle, steps_first, handled_idle, handled_first, length_handled_le, run_induction, run_processes, run_said, run_timely, run_ordered, after_handling}
 
 -- All that is sent when messages at or after a are handled is after a.
-pub sent_along_later : (m : Model) (a : ℕ) (ps : List Process) (H : List Message) → All (λ x. a ≤ x.time) H → All (λ y. a < y.time) (sent_along m ps H)
+pub sent_along_later : (m : Model) (a : ℕ) (ps : List Process) (H : List Message) → AllByRecursion (λ x. a ≤ x.time) H → AllByRecursion (λ y. a < y.time) (sent_along m ps H)
 unfolding sent_along
 sent_along_later m a ps [] h = tt
 sent_along_later m a ps (x ∷ H) h =
@@ -21,7 +21,7 @@ sent_along_later m a ps (x ∷ H) h =
     (All-weaker (λ y. x.time < y.time) (λ y. a < y.time) (λ y l. omega (arith, h.0)) (handle_in m ps x).sends (sends_later m ps x))
     (sent_along_later m a (handled_in m ps x) H h.1)
 
-pub sent_along_after_first : (m : Model) (ps : List Process) (x : Message) (H : List Message) → After x H → All (λ y. x.time < y.time) (sent_along m ps (x ∷ H))
+pub sent_along_after_first : (m : Model) (ps : List Process) (x : Message) (H : List Message) → After x H → AllByRecursion (λ y. x.time < y.time) (sent_along m ps (x ∷ H))
 sent_along_after_first m ps x H h =
     sent_along_later m x.time ps (x ∷ H)
     (omega arith, All-weaker (λ y. before x y ≡ true) (λ y. x.time ≤ y.time) (λ y b. before_time x y b) H h)
@@ -114,7 +114,7 @@ run_kept m t k s z f =
 -- A history, with membership by recursion.
 pub record Complete (m : Model) (ps : List Process) (xs : List Message) (t : ℕ) (H : List Message) : Type 0 where
   pub ordered : Ordered H
-  pub timely : All (λ x. x.time < t) H
+  pub timely : AllByRecursion (λ x. x.time < t) H
   pub closed : (x : Message) → Member x (xs ++ sent_along m ps H) → x.time < t → Member x H
   pub caused : (x : Message) → Member x H → Member x (xs ++ sent_along m ps H)
 

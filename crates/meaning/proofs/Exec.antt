@@ -1,7 +1,7 @@
 -- What handling one message sends and says: messages later than it, from its process and counted on from what that had sent,
 -- and lines of its time and process.
 use Rattle.std.proofs.Common.{◌≡◌, ℕ, zero, suc, ◌+◌, ◌<◌, min, cond, eqb, ltb, List, [], ◌∷◌, ◌++◌, length, get_or, sym, refl, ap, ◌∙◌, subst, append_assoc, arith}
-use Rattle.std.specs.List.{AllByRecursion as All}
+use Rattle.std.specs.List.{AllByRecursion}
 use Rattle.std.proofs.lemmas.List.{append-nil, length-append}
 use Rattle.std.proofs.ByRecursion.{All-append}
 use Rattle.std.proofs.lemmas.Bool.{cond_both, ltb-true, eqb-false}
@@ -40,7 +40,7 @@ pub record Extends (ps m n : ℕ) (d e : Done) : Type 0 where
   pub says : e.says ≡ d.says ++ lines
   pub sent : e.process.sent ≡ d.process.sent + length more
   pub counted : Counted ps m n d.process.sent more
-  pub said : All (Said m n) lines
+  pub said : AllByRecursion (Said m n) lines
 
 extends_same : (ps m n : ℕ) (d e : Done) → e.sends ≡ d.sends → e.says ≡ d.says → e.process.sent ≡ d.process.sent → Extends ps m n d e
 extends_same ps m n d e p q r =
@@ -154,8 +154,8 @@ handle_counted m p x =
 pub handle_sent : (m : Model) (p : Process) (x : Message) → (handle m p x).process.sent ≡ p.sent + length (handle m p x).sends
 handle_sent m p x = let h = handle_extends m p x in h.sent ∙ ap (λ z. p.sent + length z) (sym h.sends)
 
-pub handle_said : (m : Model) (p : Process) (x : Message) → All (Said x.to x.time) (handle m p x).says
-handle_said m p x = let h = handle_extends m p x in subst (All (Said x.to x.time)) (sym h.says) h.said
+pub handle_said : (m : Model) (p : Process) (x : Message) → AllByRecursion (Said x.to x.time) (handle m p x).says
+handle_said m p x = let h = handle_extends m p x in subst (AllByRecursion (Said x.to x.time)) (sym h.says) h.said
 
 -- The message at place k is number c + k.
 pub counted_at :

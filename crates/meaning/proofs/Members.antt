@@ -1,6 +1,6 @@
 -- Membership by recursion over the list, which is easier to take apart than `Has`.
 use Rattle.std.proofs.Common.{◌≡◌, ℕ, zero, suc, ◌<◌, ◌⊎◌, List, [], ◌∷◌, ◌++◌, length, get_or, refl, subst, inl, inr, ⊎_elim, arith}
-use Rattle.std.specs.List.{ContainsAt as Has, AllByRecursion as All}
+use Rattle.std.specs.List.{ContainsAt as Has, AllByRecursion}
 
 abbrev pub Member : {X : Type 0} → X → List X → Type 0
 Member x [] = ⊥
@@ -33,16 +33,16 @@ member_cases x [] ys h = inr h
 member_cases x (z ∷ xs) ys (inl e) = inl (inl e)
 member_cases x (z ∷ xs) ys (inr h) = ⊎_elim (λ k. inl (inr k)) (λ k. inr k) (member_cases x xs ys h)
 
-pub all_member : {X : Type 0} (P : X → Type 0) (x : X) (xs : List X) → All P xs → Member x xs → P x
+pub all_member : {X : Type 0} (P : X → Type 0) (x : X) (xs : List X) → AllByRecursion P xs → Member x xs → P x
 all_member P x [] a h = absurd h
 all_member P x (y ∷ ys) a (inl e) = subst P e a.0
 all_member P x (y ∷ ys) a (inr h) = all_member P x ys a.1 h
 
-pub all_from_member : {X : Type 0} (P : X → Type 0) (xs : List X) → ((x : X) → Member x xs → P x) → All P xs
+pub all_from_member : {X : Type 0} (P : X → Type 0) (xs : List X) → ((x : X) → Member x xs → P x) → AllByRecursion P xs
 all_from_member P [] f = tt
 all_from_member P (y ∷ ys) f = (f y (inl refl), all_from_member P ys (λ x h. f x (inr h)))
 
 -- The statements' way to speak of each place.
-pub all_by_place : {X : Type 0} (P : X → Type 0) (xs : List X) → ((k : ℕ) (x : X) → k < length xs → get_or xs k x ≡ x → P x) → All P xs
+pub all_by_place : {X : Type 0} (P : X → Type 0) (xs : List X) → ((k : ℕ) (x : X) → k < length xs → get_or xs k x ≡ x → P x) → AllByRecursion P xs
 all_by_place P [] f = tt
 all_by_place P (y ∷ ys) f = (f 0 y (omega arith) refl, all_by_place P ys (λ k x l e. f (suc k) x (omega arith) e))

@@ -1,6 +1,6 @@
 -- Messages of one sender with counts that follow each other are distinct.
 use Rattle.std.proofs.Common.{◌≡◌, ℕ, suc, ◌+◌, ◌<◌, ◌≤◌, List, [], ◌∷◌, length, get_or, refl, arith}
-use Rattle.std.specs.List.{AllByRecursion as All}
+use Rattle.std.specs.List.{AllByRecursion}
 use Rattle.std.proofs.ByRecursion.{All-weaker}
 use Rattle.meaning.specs.declared.Message.{Message}
 use Rattle.meaning.proofs.Order.{Apart, apart}
@@ -18,7 +18,7 @@ pub record Between (f low high : ℕ) (x : Message) : Type 0 where
   pub low_is : low ≤ x.count
   pub high_is : x.count < high
 
-pub numbered_between : (f c : ℕ) (xs : List Message) → Numbered f c xs → All (Between f c (c + length xs)) xs
+pub numbered_between : (f c : ℕ) (xs : List Message) → Numbered f c xs → AllByRecursion (Between f c (c + length xs)) xs
 numbered_between f c [] h = tt
 numbered_between f c (x ∷ xs) h = (
   record { from = h.0.0; low_is = omega arith; high_is = omega arith },
@@ -48,10 +48,10 @@ pub counted_numbered : (ps m n c : ℕ) (xs : List Message) → Counted ps m n c
 counted_numbered ps m n c [] h = tt
 counted_numbered ps m n c (x ∷ xs) h = ((h.0.from, h.0.count), counted_numbered ps m n (suc c) xs h.1)
 
-pub counted_later : (ps m n c : ℕ) (xs : List Message) → Counted ps m n c xs → All (λ y. n < y.time) xs
+pub counted_later : (ps m n c : ℕ) (xs : List Message) → Counted ps m n c xs → AllByRecursion (λ y. n < y.time) xs
 counted_later ps m n c [] h = tt
 counted_later ps m n c (x ∷ xs) h = (h.0.later, counted_later ps m n (suc c) xs h.1)
 
-pub counted_to : (ps m n c : ℕ) (xs : List Message) → Counted ps m n c xs → All (λ y. y.to < ps) xs
+pub counted_to : (ps m n c : ℕ) (xs : List Message) → Counted ps m n c xs → AllByRecursion (λ y. y.to < ps) xs
 counted_to ps m n c [] h = tt
 counted_to ps m n c (x ∷ xs) h = (h.0.to, counted_to ps m n (suc c) xs h.1)

@@ -1,6 +1,6 @@
 -- Lists of messages in strict order, and insertion into them.
 use Rattle.std.proofs.Common.{◌≡◌, zero, suc, ◌+◌, true, false, ◌⊎◌, List, [], ◌∷◌, length, get_or, sym, refl, ap, ◌∙◌, subst, ap₂, inl, inr, arith}
-use Rattle.std.specs.List.{AllByRecursion as All}
+use Rattle.std.specs.List.{AllByRecursion}
 use Rattle.std.proofs.lemmas.List.{get_or_default}
 use Rattle.std.proofs.ByRecursion.{All-get_or, All-from_get_or, All-weaker}
 use Rattle.std.proofs.lemmas.Bool.{cond_both, both_ways}
@@ -12,7 +12,7 @@ use Rattle.meaning.proofs.Members.{Member, all_member, all_from_member}
 
 -- Every message of the list comes after a.
 abbrev pub After : Message → List Message → Type 0
-After a xs = All (λ y. before a y ≡ true) xs
+After a xs = AllByRecursion (λ y. before a y ≡ true) xs
 
 -- Each comes before every later one.
 abbrev pub Ordered : List Message → Type 0
@@ -22,7 +22,7 @@ Ordered (x ∷ xs) = After x xs × Ordered xs
 -- Any two of the list can be told apart by the order.
 abbrev pub Distinct : List Message → Type 0
 Distinct [] = Unit {0}
-Distinct (x ∷ xs) = All (Apart x) xs × Distinct xs
+Distinct (x ∷ xs) = AllByRecursion (Apart x) xs × Distinct xs
 
 pub sorted_from_ordered : (xs : List Message) → Ordered xs → Sorted xs
 sorted_from_ordered [] h j k x y l i p q = absurd (omega arith)
@@ -71,13 +71,13 @@ ordered_same (x ∷ xs) (y ∷ ys) h k f g =
     rest a b z cs bs e s i (inr j) = j
 
 -- What holds of a message and of all others holds of all after its insertion.
-pub all_insert : (P : Message → Type 0) (x : Message) (ys : List Message) → P x → All P ys → All P (insert x ys)
+pub all_insert : (P : Message → Type 0) (x : Message) (ys : List Message) → P x → AllByRecursion P ys → AllByRecursion P (insert x ys)
 unfolding insert
 all_insert P x [] p h = (p, tt)
 all_insert P x (y ∷ ys) p h =
-    cond_both (before x y) (x ∷ y ∷ ys) (y ∷ insert x ys) (All P) (λ _. (p, h)) (λ _. (h.0, all_insert P x ys p h.1))
+    cond_both (before x y) (x ∷ y ∷ ys) (y ∷ insert x ys) (AllByRecursion P) (λ _. (p, h)) (λ _. (h.0, all_insert P x ys p h.1))
 
-pub all_insert_all : (P : Message → Type 0) (xs ys : List Message) → All P xs → All P ys → All P (insert_all xs ys)
+pub all_insert_all : (P : Message → Type 0) (xs ys : List Message) → AllByRecursion P xs → AllByRecursion P ys → AllByRecursion P (insert_all xs ys)
 unfolding insert_all
 all_insert_all P [] ys h k = k
 all_insert_all P (x ∷ xs) ys h k = all_insert_all P xs (insert x ys) h.1 (all_insert P x ys h.0 k)
@@ -116,7 +116,7 @@ member_insert_all_cases z xs ys h =
     (all_from_member (λ w. Member w xs ⊎ Member w ys) xs (λ w i. inl i)) (all_from_member (λ w. Member w xs ⊎ Member w ys) ys (λ w i. inr i)))
     h
 
-pub insert_ordered : (x : Message) (ys : List Message) → Ordered ys → All (Apart x) ys → Ordered (insert x ys)
+pub insert_ordered : (x : Message) (ys : List Message) → Ordered ys → AllByRecursion (Apart x) ys → Ordered (insert x ys)
 unfolding insert
 insert_ordered x [] h a = (tt, tt)
 insert_ordered x (y ∷ ys) h a =
@@ -127,13 +127,13 @@ insert_ordered x (y ∷ ys) h a =
     other e (inl t) = absurd (both_ways (before x y) e t)
     other e (inr t) = t
 
-pub insert_all_ordered : (xs ys : List Message) → Ordered ys → Distinct xs → All (λ x. All (Apart x) ys) xs → Ordered (insert_all xs ys)
+pub insert_all_ordered : (xs ys : List Message) → Ordered ys → Distinct xs → AllByRecursion (λ x. AllByRecursion (Apart x) ys) xs → Ordered (insert_all xs ys)
 unfolding insert_all
 insert_all_ordered [] ys h d a = h
 insert_all_ordered (x ∷ xs) ys h d a =
     insert_all_ordered xs (insert x ys) (insert_ordered x ys h a.0) d.1 (still xs d.0 a.1)
   where
-    still : (zs : List Message) → All (Apart x) zs → All (λ z. All (Apart z) ys) zs → All (λ z. All (Apart z) (insert x ys)) zs
+    still : (zs : List Message) → AllByRecursion (Apart x) zs → AllByRecursion (λ z. AllByRecursion (Apart z) ys) zs → AllByRecursion (λ z. AllByRecursion (Apart z) (insert x ys)) zs
     still [] p q = tt
     still (z ∷ zs) p q = (all_insert (Apart z) x ys (apart_swap x z p.0) q.0, still zs p.1 q.1)
 

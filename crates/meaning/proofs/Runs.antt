@@ -1,6 +1,6 @@
 -- Runs of the meaning up to a time t: which messages they handle, and what they leave.
 use Rattle.std.proofs.Common.{◌≡◌, ℕ, zero, suc, ◌+◌, ◌<◌, ◌≤◌, true, cond, ltb, List, [], ◌∷◌, ◌++◌, length, sym, refl, ap, ◌∙◌, subst, ⊎_elim, append_assoc, arith}
-use Rattle.std.specs.List.{AllByRecursion as All}
+use Rattle.std.specs.List.{AllByRecursion}
 use Rattle.std.proofs.lemmas.List.{append-nil}
 use Rattle.std.proofs.ByRecursion.{All-weaker}
 use Rattle.std.proofs.lemmas.Bool.{cond_both, cond-true, cond-false, lt-ltb, le-ltb, cases_lt}
@@ -13,7 +13,7 @@ use Rattle.meaning.proofs.States.{Fine, fine_handling, sends_later}
 
 -- All of xs are for t or later.
 abbrev pub Idle : ℕ → List Message → Type 0
-Idle t xs = All (λ y. t ≤ y.time) xs
+Idle t xs = AllByRecursion (λ y. t ≤ y.time) xs
 
 -- The first of xs, if it is before t, and then H.
 unfoldable pub first_below : ℕ → List Message → List Message → List Message
@@ -129,8 +129,8 @@ run_said m t k s f =
     r ∙ append_assoc z.said (handle_in m z.processes x).says (said_along m (handled_in m z.processes x) H))
     k s f
 
-pub run_timely : (m : Model) (t k : ℕ) (s : State) → Fine m s → All (λ x. x.time < t) (handled m t k s)
-run_timely m t k s f = run_induction m t (λ z H e. All (λ x. x.time < t) H) (λ _ _. tt) (λ _ _ _ _ _ _ _ l r. (l, r)) k s f
+pub run_timely : (m : Model) (t k : ℕ) (s : State) → Fine m s → AllByRecursion (λ x. x.time < t) (handled m t k s)
+run_timely m t k s f = run_induction m t (λ z H e. AllByRecursion (λ x. x.time < t) H) (λ _ _. tt) (λ _ _ _ _ _ _ _ l r. (l, r)) k s f
 
 -- What is sent is later than what is handled, so that all that is pending then comes after it.
 pub after_handling : (m : Model) (s : State) (x : Message) (xs : List Message) → After x xs → After x (handling m s x xs).pending

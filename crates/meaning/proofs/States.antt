@@ -1,7 +1,7 @@
 -- What holds of every state of a run: as many processes as kinds, the pending messages in strict order, each to a process that there is,
 -- and from outside or counted below what its sender has sent. The last part keeps new messages apart from pending ones.
 use Rattle.std.proofs.Common.{◌≡◌, ℕ, zero, suc, ◌+◌, ◌<◌, ◌≤◌, ltb, ◌⊎◌, List, [], ◌∷◌, length, get_or, sym, refl, ap, ◌∙◌, subst, inl, inr, ⊎_elim, arith}
-use Rattle.std.specs.List.{AllByRecursion as All}
+use Rattle.std.specs.List.{AllByRecursion}
 use Rattle.std.proofs.lemmas.List.{length-set, get_or-set_same, get_or-set_other}
 use Rattle.std.proofs.ByRecursion.{All-weaker}
 use Rattle.std.proofs.lemmas.Bool.{cond_both, cases_eq}
@@ -26,18 +26,18 @@ pub record Placed (n : ℕ) (ps : List Process) (x : Message) : Type 0 where
 pub record Fine (m : Model) (s : State) : Type 0 where
   pub many : length s.processes ≡ length m.kinds
   pub ordered : Ordered s.pending
-  pub placed : All (Placed (length m.kinds) s.processes) s.pending
+  pub placed : AllByRecursion (Placed (length m.kinds) s.processes) s.pending
 
 -- What handling x among ps sends.
 pub sends_counted : (m : Model) (ps : List Process) (x : Message) → Counted (length m.kinds) x.to x.time (sent_by ps x.to) (handle_in m ps x).sends
 unfolding handle_in
 sends_counted m ps x = handle_counted m (get_or ps x.to nobody) x
 
-pub sends_later : (m : Model) (ps : List Process) (x : Message) → All (λ y. x.time < y.time) (handle_in m ps x).sends
+pub sends_later : (m : Model) (ps : List Process) (x : Message) → AllByRecursion (λ y. x.time < y.time) (handle_in m ps x).sends
 sends_later m ps x =
     counted_later (length m.kinds) x.to x.time (sent_by ps x.to) (handle_in m ps x).sends (sends_counted m ps x)
 
-pub sends_to : (m : Model) (ps : List Process) (x : Message) → All (λ y. y.to < length m.kinds) (handle_in m ps x).sends
+pub sends_to : (m : Model) (ps : List Process) (x : Message) → AllByRecursion (λ y. y.to < length m.kinds) (handle_in m ps x).sends
 sends_to m ps x =
     counted_to (length m.kinds) x.to x.time (sent_by ps x.to) (handle_in m ps x).sends (sends_counted m ps x)
 
@@ -76,7 +76,7 @@ placed_kept m n ps x y l h =
 -- What is sent is placed.
 pub sends_placed :
     (m : Model) (ps : List Process) (x : Message) → length ps ≡ length m.kinds → x.to < length m.kinds →
-    All (Placed (length m.kinds) (handled_in m ps x)) (handle_in m ps x).sends
+    AllByRecursion (Placed (length m.kinds) (handled_in m ps x)) (handle_in m ps x).sends
 sends_placed m ps x many l =
     both (handle_in m ps x).sends (sends_to m ps x) (numbered_between x.to (sent_by ps x.to) (handle_in m ps x).sends (sends_numbered m ps x))
   where
@@ -96,18 +96,18 @@ sends_placed m ps x many l =
         }
 
     both :
-        (ys : List Message) → All (λ y. y.to < length m.kinds) ys →
-        All (Between x.to (sent_by ps x.to) (sent_by ps x.to + length (handle_in m ps x).sends)) ys →
-        All (Placed (length m.kinds) (handled_in m ps x)) ys
+        (ys : List Message) → AllByRecursion (λ y. y.to < length m.kinds) ys →
+        AllByRecursion (Between x.to (sent_by ps x.to) (sent_by ps x.to + length (handle_in m ps x).sends)) ys →
+        AllByRecursion (Placed (length m.kinds) (handled_in m ps x)) ys
     both [] t b = tt
     both (y ∷ ys) t b = (one y t.0 b.0, both ys t.1 b.1)
 
 -- What is sent is apart from what was pending.
 pub sends_apart :
-    (m : Model) (ps : List Process) (x : Message) (ys : List Message) → x.to < length m.kinds → All (Placed (length m.kinds) ps) ys →
-    All (λ y. All (Apart y) ys) (handle_in m ps x).sends
+    (m : Model) (ps : List Process) (x : Message) (ys : List Message) → x.to < length m.kinds → AllByRecursion (Placed (length m.kinds) ps) ys →
+    AllByRecursion (λ y. AllByRecursion (Apart y) ys) (handle_in m ps x).sends
 sends_apart m ps x ys l h =
-    All-weaker (Between x.to (sent_by ps x.to) (sent_by ps x.to + length (handle_in m ps x).sends)) (λ y. All (Apart y) ys)
+    All-weaker (Between x.to (sent_by ps x.to) (sent_by ps x.to + length (handle_in m ps x).sends)) (λ y. AllByRecursion (Apart y) ys)
     (λ y b. All-weaker (Placed (length m.kinds) ps) (Apart y) (λ z p. apart y z (λ e c. differ y z b e c p.from)) ys h)
     (handle_in m ps x).sends (numbered_between x.to (sent_by ps x.to) (handle_in m ps x).sends (sends_numbered m ps x))
   where
@@ -123,7 +123,7 @@ pub fine_handling : (m : Model) (s : State) (x : Message) (xs : List Message) �
 unfolding handling
 fine_handling m s x xs e h =
     let o : Ordered (x ∷ xs) = subst Ordered e h.ordered in
-    let p : All (Placed (length m.kinds) s.processes) (x ∷ xs) = subst (All (Placed (length m.kinds) s.processes)) e h.placed in
+    let p : AllByRecursion (Placed (length m.kinds) s.processes) (x ∷ xs) = subst (AllByRecursion (Placed (length m.kinds) s.processes)) e h.placed in
     let l : x.to < length s.processes = omega (arith, h.many, p.0.to) in
     record {
       many = length_handled m s.processes x ∙ h.many;
@@ -161,7 +161,7 @@ outside_distinct m xs o =
     numbered_distinct (length m.kinds) 0 xs
     (numbered_by_place (length m.kinds) 0 xs (λ k x l e. let h = o.1 k x l e in (h.1, omega (arith, h.2))))
 
-pub outside_placed : (m : Model) (ps : List Process) (xs : List Message) → Outside m xs → All (Placed (length m.kinds) ps) xs
+pub outside_placed : (m : Model) (ps : List Process) (xs : List Message) → Outside m xs → AllByRecursion (Placed (length m.kinds) ps) xs
 outside_placed m ps xs o =
     all_by_place (Placed (length m.kinds) ps) xs (λ k x l e. let h = o.1 k x l e in record { to = h.0; from = inl h.1 })
 
@@ -172,7 +172,7 @@ fine_start m luck xs p o =
       many = length_initial luck 0 m.numbers ∙ p.0;
       ordered =
           insert_all_ordered xs [] tt (outside_distinct m xs o)
-          (All-weaker (Placed (length m.kinds) []) (λ x. All (Apart x) []) (λ x _. tt) xs (outside_placed m [] xs o));
+          (All-weaker (Placed (length m.kinds) []) (λ x. AllByRecursion (Apart x) []) (λ x _. tt) xs (outside_placed m [] xs o));
       placed =
           all_insert_all (Placed (length m.kinds) (initial luck 0 m.numbers)) xs [] (outside_placed m (initial luck 0 m.numbers) xs o)
           tt;

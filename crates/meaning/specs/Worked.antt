@@ -1,6 +1,6 @@
 -- Five small models, and what each prints: one table.
 use Rattle.std.specs.Prelude.{◌≡◌, ℕ, List, [], ◌∷◌}
-use Rattle.std.specs.List.{AllByRecursion as All}
+use Rattle.std.specs.List.{AllByRecursion}
 use Rattle.meaning.specs.declared.Message.{Message}
 use Rattle.meaning.specs.declared.Line.{Line}
 use Rattle.meaning.specs.Model.{Model, Body, fixed, var, it, me, plus, minus, over, remains, less, stop, assign, say, send, branch, step, steps, start}
@@ -98,4 +98,4 @@ wrap =
 
 -- Each row of the table prints its lines.
 abbrev pub WorkedModels : Type 0
-WorkedModels = All Prints (echo ∷ rally ∷ sum ∷ fan ∷ wrap ∷ [])
+WorkedModels = AllByRecursion Prints (echo ∷ rally ∷ sum ∷ fan ∷ wrap ∷ [])

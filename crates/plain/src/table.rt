@@ -1,5 +1,5 @@
 // The worked models A to G as words: each is small, and shows one rule of the meaning.
-ghost use Rattle.meaning.specs.Worked.{echo as echo-model, rally as rally-model, sum as sum-model, fan as fan-model, wrap as wrap-model};
+ghost use Rattle.meaning.specs.Worked.{echo as echo_model, rally as rally_model, sum as sum_model, fan as fan_model, wrap as wrap_model};
 ghost use Rattle.plain.specs.Table.{all_words, dice_lines, count_lines};
 ghost use Rattle.std.specs.Prelude.{◌≡◌, [], ◌∷◌};
 
@@ -56,7 +56,7 @@ const FIRST: Message = Message {
 
 // say it
 fn echo() -> Example
-    ensures { result.code.now ≡ all_words echo-model.model.bodies }
+    ensures { result.code.now ≡ all_words echo_model.model.bodies }
 {
     let outside = &[Message {
         time: 5,
@@ -78,7 +78,7 @@ fn echo() -> Example
 
 // say it / if (it < 3) / send (it + 1) to (1 - me) after 2 / end
 fn rally() -> Example
-    ensures { result.code.now ≡ all_words rally-model.model.bodies }
+    ensures { result.code.now ≡ all_words rally_model.model.bodies }
 {
     let code = &[
         3, 2, 5, 12, 1, 10, 2, 0, 3, 4, 0, 2, 6, 0, 1, 3, 5, 2, 0, 1, 0, 0, 0,
@@ -103,7 +103,7 @@ fn rally() -> Example
 
 // a = (a + it) / say a
 fn sum() -> Example
-    ensures { result.code.now ≡ all_words sum-model.model.bodies }
+    ensures { result.code.now ≡ all_words sum_model.model.bodies }
 {
     let outside = &[
         Message {
@@ -180,7 +180,7 @@ fn count_up() -> Example
 
 // send 1 to 1 after 0 / send 2 to 1 after 1 / send 3 to 9 after 1, and for the second kind: say it
 fn fan() -> Example
-    ensures { result.code.now ≡ all_words fan-model.model.bodies }
+    ensures { result.code.now ≡ all_words fan_model.model.bodies }
 {
     let code = &[
         4, 0, 0, 0, 1, 0, 1, 4, 0, 1, 0, 1, 0, 2, 4, 0, 1, 0, 9, 0, 3, 0, 3, 2, 0,
@@ -205,7 +205,7 @@ fn fan() -> Example
 
 // say (0 - 1) / say (7 / 0) / say (7 % 4)
 fn wrap() -> Example
-    ensures { result.code.now ≡ all_words wrap-model.model.bodies }
+    ensures { result.code.now ≡ all_words wrap_model.model.bodies }
 {
     let code = &[3, 6, 0, 0, 0, 1, 3, 8, 0, 7, 0, 0, 3, 9, 0, 7, 0, 4, 0];
     Example {

@@ -4,7 +4,7 @@ use Rattle.std.proofs.ByRecursion.{All-get_or, All-from_get_or, All-weaker}
 use Rattle.std.proofs.lemmas.List.{get_or_default}
 use Rattle.std.proofs.lemmas.Bool.{cond_both, both_ways}
 use Rattle.std.proofs.lemmas.Bool.Decides.{nat_tests}
-use Rattle.std.specs.List.{AllByRecursion as All}
+use Rattle.std.specs.List.{AllByRecursion}
 use Rattle.meaning.specs.declared.Message.{Message}
 use Rattle.meaning.specs.Model.{before, insert}
 use Rattle.meaning.specs.Promise.{Sorted}
@@ -26,7 +26,7 @@ before_trans x y z =
 -- each comes before every later one, by recursion
 abbrev Ordered : List Message → Type 0
 Ordered [] = Unit {0}
-Ordered (x ∷ xs) = All (λ y. before x y ≡ true) xs × Ordered xs
+Ordered (x ∷ xs) = AllByRecursion (λ y. before x y ≡ true) xs × Ordered xs
 
 ordered : (xs : List Message) → Sorted xs → Ordered xs
 ordered [] s = tt
@@ -45,11 +45,11 @@ sorted (x ∷ xs) o zero (suc k) y z l h at_y at_z =
     cc
 sorted (x ∷ xs) o (suc j) (suc k) y z l h at_y at_z = sorted xs o.1 j k y z (omega arith) (omega arith) at_y at_z
 
-all_insert : (P : Message → Type 0) (m : Message) (ys : List Message) → P m → All P ys → All P (insert m ys)
+all_insert : (P : Message → Type 0) (m : Message) (ys : List Message) → P m → AllByRecursion P ys → AllByRecursion P (insert m ys)
 unfolding insert
 all_insert P m [] h a = (h, tt)
 all_insert P m (y ∷ ys) h a =
-    cond_both (before m y) (m ∷ y ∷ ys) (y ∷ insert m ys) (All P) (λ _. (h, a)) (λ _. (a.0, all_insert P m ys h a.1))
+    cond_both (before m y) (m ∷ y ∷ ys) (y ∷ insert m ys) (AllByRecursion P) (λ _. (h, a)) (λ _. (a.0, all_insert P m ys h a.1))
 
 ordered_insert : (m : Message) (ys : List Message) → Ordered ys → Fresh m ys → Ordered (insert m ys)
 unfolding insert

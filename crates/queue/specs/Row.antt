@@ -1,6 +1,6 @@
 -- Messages that wait in a row: the first `len` places are in use, and the last in use is the first to be handled.
 use Rattle.std.specs.Prelude.{◌≡◌, ℕ, ◌+◌, ◌<◌, ◌≤◌, true, cond, ◌⊎◌, List, [], ◌∷◌, reverse, length, take, drop, Some, None, Option, nat_le}
-use Rattle.std.specs.List.{AllByRecursion as All}
+use Rattle.std.specs.List.{AllByRecursion}
 use Rattle.meaning.specs.declared.Message.{Message}
 use Rattle.meaning.specs.Model.{before, insert, insert_all}
 
@@ -19,7 +19,7 @@ first_of row len = cond (nat_le len (length row)) (head_of (waiting row len)) No
 
 -- m comes before or after each of ys: none of them has its key.
 abbrev pub Fresh : Message → List Message → Type 0
-Fresh m ys = All (λ y. (before m y ≡ true) ⊎ (before y m ≡ true)) ys
+Fresh m ys = AllByRecursion (λ y. (before m y ≡ true) ⊎ (before y m ≡ true)) ys
 
 -- m was put in among those that waited, and the places behind are as they were.
 pub record Inserted (m : Message) (row : List Message) (len : ℕ) (row' : List Message) (len' : ℕ) : Type 0 where

@@ -1,6 +1,6 @@
 -- How many messages are handled: no more than 65,536 for each time, where no more are ever pending; so no process counts up to 2^64.
 use Rattle.std.proofs.Common.{◌≡◌, ℕ, zero, suc, ◌+◌, ◌*◌, ◌<◌, ◌≤◌, cond, leb, List, [], ◌∷◌, length, sym, refl, ap, subst, ⊎_elim, arith}
-use Rattle.std.specs.List.{AllByRecursion as All}
+use Rattle.std.specs.List.{AllByRecursion}
 use Rattle.std.proofs.ByRecursion.{All-weaker}
 use Rattle.std.proofs.lemmas.Bool.{cond_both, cond-true, cond-false, le-leb, lt-leb, cases_eq, cases_lt}
 use Rattle.meaning.specs.declared.Message.{Message}
@@ -29,7 +29,7 @@ upto_insert t x (y ∷ ys) =
     (λ _. omega (arith, upto_insert t x ys))
 
 -- Later ones don't count.
-upto_later : (t : ℕ) (xs ys : List Message) → All (λ x. t < x.time) xs → upto t (insert_all xs ys) ≡ upto t ys
+upto_later : (t : ℕ) (xs ys : List Message) → AllByRecursion (λ x. t < x.time) xs → upto t (insert_all xs ys) ≡ upto t ys
 unfolding upto insert_all
 upto_later t [] ys h = refl
 upto_later t (x ∷ xs) ys h =
@@ -64,7 +64,7 @@ few_handling m end n s x xs f e l b h =
     (cases_eq h.t x.time) in
     let long = length_insert_all sends xs in
     let there : x.to < length s.processes =
-    omega (arith, f.many, (subst (All (Placed (length m.kinds) s.processes)) e f.placed).0.to) in
+    omega (arith, f.many, (subst (AllByRecursion (Placed (length m.kinds) s.processes)) e f.placed).0.to) in
     record {
       t = x.time;
       in_time = l;
