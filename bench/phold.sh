@@ -34,10 +34,12 @@ mkdir -p "$out"
 
 if [ "$built" = no ]; then
     command -v rt >/dev/null 2>&1 || fail "there is no rt, which proves and builds the library"
-    (cd "$root" && rt staticlib sequential) >"$out/staticlib.log" 2>&1 || {
+    (cd "$root/crates/sequential_c" && rt lib) >"$out/staticlib.log" 2>&1 || {
         tail -n 20 "$out/staticlib.log" >&2
-        fail "rt staticlib sequential failed; target/bench/staticlib.log has all that it said"
+        fail "rt lib in crates/sequential_c failed; target/bench/staticlib.log has all that it said"
     }
+    mkdir -p "$root/target/staticlib"
+    cp "$root/crates/sequential_c/out/libsequential_c.a" "$library"
 fi
 [ -f "$library" ] || fail "there is no target/staticlib/libsequential.a; run without --built"
 

@@ -1,4 +1,4 @@
-// plain: plays a text one message after the other, and prints what it says.
+// plain_text: plays a text one message after the other, and prints what it says.
 #![tactic(auto)]
 
 use anyhow::anyhow;
@@ -8,7 +8,7 @@ use std::io::{BufWriter, Write};
 use std::{env, fs, io};
 use text::play::{Asked, Verdict, Watch, play, settle};
 
-const USAGE: &str = "usage: plain TEXT LUCK END R [progress]
+const USAGE: &str = "usage: plain_text TEXT LUCK END R [progress]
   TEXT      a file with the text of a model
   LUCK      the luck, 0 to 2147483647
   END       the time at which the run ends, 1 to 4294967295

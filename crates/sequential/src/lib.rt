@@ -292,9 +292,8 @@ pub fn run(
     }
 }
 
-// The same for callers in C and Rust: how many steps were done.
-#[unsafe(no_mangle)]
-pub extern "C" fn sequential_run(
+// The same, with only how many steps were done; `sequential_c` has it for callers in C.
+pub fn sequential_run(
     code: &[u32],
     kinds: &[u32],
     processes: &mut [Process],

@@ -1,8 +1,7 @@
 // A worker over lent memory: how it begins, a piece of its work, and a letter that it reads.
-
-// What a worker is asked to do: with which end, seed and places, of how many workers it is which.
 #![tactic(auto)]
 
+// What a worker is asked to do: with which end, seed and places, of how many workers it is which.
 #[derive(Clone, Copy)]
 #[repr(C)]
 pub struct Asked {
