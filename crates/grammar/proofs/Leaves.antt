@@ -4,12 +4,12 @@ use Rattle.std.specs.List.{AllByRecursion}
 use Rattle.std.proofs.lemmas.Bool.{both_ways, and_parts, and_from, and_cases, or_cases, or_parts, or_left, not-false, not_from_false, le-leb, eqb-true, cond-true, cond-false, cond_both}
 use Rattle.grammar.specs.Syntax.{is_letter, is_digit, in_word, all, same, among, reserved, is_word, is_name, is_operand, is_number, Sign, plus, minus, times, over, remains, less, equal, sign_byte}
 use Rattle.grammar.specs.Parse.{Got, got, bad, expect, more_word, read_word, checked, read_name, more_digits, after_zero, read_number, read_sign}
-use Rattle.grammar.proofs.Reading.{Reads, Reading, Goes_on, done, fails, by_test, here, at_end, at_first, eats, sees, and_so}
+use Rattle.grammar.proofs.Reading.{Reads, Reading, GoesOn, done, fails, by_test, here, at_end, at_first, eats, sees, and_so}
 use Rattle.grammar.proofs.Words.{same_is}
 use Rattle.grammar.proofs.Full.{sign_full}
 
 -- Just these bytes.
-expect_on : (c p q : List ℕ) → p ++ c ≡ q → Goes_on {A = Unit {0}} (λ _. q) (λ _. Unit {0}) p
+expect_on : (c p q : List ℕ) → p ++ c ≡ q → GoesOn {A = Unit {0}} (λ _. q) (λ _. Unit {0}) p
 expect_on c p q h = record { more = c; value = tt; shows = h; fine = tt }
 
 expect_reading : (e : ℕ) (c p q : List ℕ) → p ++ c ≡ q → (bs : List ℕ) → Reading (λ m bs. expect c bs) (λ _. q) (λ _. Unit {0}) p e bs (expect c bs)
@@ -46,7 +46,7 @@ word_push (x ∷ u) b h g l =
     (and_from (all in_word (u ++ b ∷ [])) _ (all_push in_word u b q.0 g) (le-leb (length (u ++ b ∷ [])) 7 (omega (arith, length-append u (b ∷ []))))))
 
 -- The word w is whole, or goes on.
-word_on : (w : List ℕ) → is_word w ≡ true → Goes_on bytes (passes is_word) w
+word_on : (w : List ℕ) → is_word w ≡ true → GoesOn bytes (passes is_word) w
 word_on w h = record { more = []; value = w; shows = append-nil w; fine = h }
 
 more_word_reading : (e n : ℕ) (w bs : List ℕ) → is_word w ≡ true → length w + n ≡ 8 →
@@ -144,7 +144,7 @@ zero_reading e (b ∷ bs) =
     (λ t. at_first b bs (got (48 ∷ []) (b ∷ bs)) refl (λ m k. cond-false (is_digit b) (bad (b ∷ k)) (got (48 ∷ []) (b ∷ k)) t)
     (record { shows = refl; fine = refl }))
 
-zero_on : Goes_on bytes (passes is_number) []
+zero_on : GoesOn bytes (passes is_number) []
 unfolding all
 zero_on = record { more = 48 ∷ []; value = 48 ∷ []; shows = refl; fine = refl }
 
@@ -177,7 +177,7 @@ numbers {e} = record { goes_on = zero_on; reading = λ bs l. number_reading e bs
 abbrev pub show_sign : Sign → List ℕ
 show_sign s = sign_byte s ∷ []
 
-sign_on : Goes_on show_sign (λ _. Unit {0}) []
+sign_on : GoesOn show_sign (λ _. Unit {0}) []
 sign_on = record { more = 43 ∷ []; value = plus; shows = refl; fine = tt }
 
 sign_at : (e : ℕ) (s : Sign) (b : ℕ) (bs : List ℕ) → eqb b (sign_byte s) ≡ true → Reading (λ m bs. read_sign bs) show_sign (λ _. Unit {0}) [] e (b ∷ bs) (got s bs)

@@ -3,7 +3,7 @@ use Rattle.std.proofs.Common.{◌≡◌, ℕ, zero, suc, ◌+◌, ◌<◌, Bool,
 use Rattle.std.proofs.lemmas.Bool.{and_parts, and_from, leb-true, le-leb, eqb-true, cond-true, cond-false, cond_both}
 use Rattle.grammar.specs.Syntax.{is_name, is_number, newline, Kind, Thing, Note, Text, show_lines, show_row, show_kinds, show_things, show_notes, show, every, spelled_kind, spelled_thing, spelled_note, spelled}
 use Rattle.grammar.specs.Parse.{Got, got, bad, and_then, expect, read_name, read_number, read_next, read_row, read_upto, read_kind, read_thing, read_note, read_notes, read_things, read_kinds}
-use Rattle.grammar.proofs.Reading.{Reads, Reading, Goes_on, done, at_end, at_first, eats, sees, behind, shift, unshift, nothing_left, weaker, by_length, then, and_so}
+use Rattle.grammar.proofs.Reading.{Reads, Reading, GoesOn, done, at_end, at_first, eats, sees, behind, shift, unshift, nothing_left, weaker, by_length, then, and_so}
 use Rattle.grammar.proofs.Leaves.{bytes, passes, expects, names, numbers}
 use Rattle.grammar.proofs.Trees.{lines_reads, by_the_end}
 
@@ -12,7 +12,7 @@ show_line ws = show_row ws ++ newline
 
 -- A row of what is read one by one.
 module _ (one : List ℕ → Got (List ℕ)) (ok : List ℕ → Bool) (reads : (n : ℕ) → Reads (λ m bs. one bs) bytes (passes ok) [] 0 n) where
-  row_on : (q : List (List ℕ) → Bool) → q [] ≡ true → Goes_on show_line (passes q) []
+  row_on : (q : List (List ℕ) → Bool) → q [] ≡ true → GoesOn show_line (passes q) []
   unfolding show_row
   row_on q h = record { more = newline; value = []; shows = refl; fine = h }
 
@@ -91,7 +91,7 @@ note_reads =
     and_so (expects newline) (λ _ _. done (record { time = t; to = f; number = k }) (simp append_assoc) (and_from (is_number t) _ o (and_from (is_number f) _ p q))))))))
 
 -- Messages.
-notes_on : Goes_on show_notes (passes (every spelled_note)) []
+notes_on : GoesOn show_notes (passes (every spelled_note)) []
 unfolding show_notes every
 notes_on = record { more = []; value = []; shows = refl; fine = refl }
 
@@ -118,7 +118,7 @@ record NoKinds (t : Text) : Type 0 where
   none : t.kinds ≡ []
   spells : spelled t ≡ true
 
-things_on : Goes_on show NoKinds []
+things_on : GoesOn show NoKinds []
 unfolding show show_kinds show_things show_notes every
 things_on = record { more = []; value = record { kinds = []; things = []; notes = [] }; shows = refl; fine = record { none = refl; spells = refl } }
 
@@ -156,7 +156,7 @@ things_reads zero = nothing_left things_on
 things_reads (suc n) = shift (record { goes_on = things_on; reading = things_step n (things_reads n) })
 
 -- Whole texts.
-text_on : Goes_on show (passes spelled) []
+text_on : GoesOn show (passes spelled) []
 text_on = record { more = things_on.more; value = things_on.value; shows = things_on.shows; fine = things_on.fine.spells }
 
 next_kind : (n : ℕ) → Reads read_kinds show (passes spelled) [] 0 n →

@@ -13,7 +13,7 @@ with_rest (got a k) c = got a c
 with_rest (bad k) c = bad c
 
 -- The bytes q can go on to show a value.
-pub record Goes_on {A : Type 0} (S : A → List ℕ) (ok : A → Type 0) (q : List ℕ) : Type 0 where
+pub record GoesOn {A : Type 0} (S : A → List ℕ) (ok : A → Type 0) (q : List ℕ) : Type 0 where
   pub more : List ℕ
   pub value : A
   pub shows : q ++ more ≡ S value
@@ -25,7 +25,7 @@ pub record Shown {A : Type 0} (S : A → List ℕ) (ok : A → Type 0) (q : List
 
 abbrev pub Outcome : {A : Type 0} → (A → List ℕ) → (A → Type 0) → List ℕ → Got A → Type 0
 Outcome S ok q (got a k) = Shown S ok q a
-Outcome S ok q (bad k) = Goes_on S ok q
+Outcome S ok q (bad k) = GoesOn S ok q
 
 -- g is what R answers on bs, behind the bytes p; R m may read fewer than m + e bytes.
 pub record Reading {A : Type 0} (R : ℕ → List ℕ → Got A) (S : A → List ℕ) (ok : A → Type 0) (p : List ℕ) (e : ℕ) (bs : List ℕ) (g : Got A) : Type 0 where
@@ -35,7 +35,7 @@ pub record Reading {A : Type 0} (R : ℕ → List ℕ → Got A) (S : A → List
   pub outcome : Outcome S ok (p ++ front) g
 
 pub record Reads {A : Type 0} (R : ℕ → List ℕ → Got A) (S : A → List ℕ) (ok : A → Type 0) (p : List ℕ) (e n : ℕ) : Type 0 where
-  pub goes_on : Goes_on S ok p
+  pub goes_on : GoesOn S ok p
   pub reading : (bs : List ℕ) → length bs < n + e → Reading R S ok p e bs (R n bs)
 
 abbrev pub seq : {A B : Type 0} → (ℕ → List ℕ → Got A) → (A → ℕ → List ℕ → Got B) → ℕ → List ℕ → Got B
@@ -51,11 +51,11 @@ module _ {A : Type 0} {S : A → List ℕ} {ok : A → Type 0} where
       }
 
   -- No value goes on so.
-  pub fails : {p : List ℕ} {e n : ℕ} → Goes_on S ok p → Reads (λ m bs. bad bs) S ok p e n
+  pub fails : {p : List ℕ} {e n : ℕ} → GoesOn S ok p → Reads (λ m bs. bad bs) S ok p e n
   fails {p} g =
       record {
         goes_on = g;
-        reading = λ bs l. record { front = []; splits = refl; local = λ b c more m r k. refl; outcome = subst (Goes_on S ok) (sym (append-nil p)) g };
+        reading = λ bs l. record { front = []; splits = refl; local = λ b c more m r k. refl; outcome = subst (GoesOn S ok) (sym (append-nil p)) g };
       }
 
   pub by_test : {p : List ℕ} {e n : ℕ} {X Y : ℕ → List ℕ → Got A} (t : Bool) → (t ≡ true → Reads X S ok p e n) → (t ≡ false → Reads Y S ok p e n) →
@@ -134,7 +134,7 @@ module _ {A : Type 0} {S : A → List ℕ} {ok : A → Type 0} where
             record { front = x.front; splits = x.splits; local = λ b c more m q k. x.local b c more (suc m) q (omega arith); outcome = x.outcome });
       }
 
-  pub nothing_left : {R : ℕ → List ℕ → Got A} {p : List ℕ} → Goes_on S ok p → Reads R S ok p 0 zero
+  pub nothing_left : {R : ℕ → List ℕ → Got A} {p : List ℕ} → GoesOn S ok p → Reads R S ok p 0 zero
   nothing_left g = record { goes_on = g; reading = λ bs l. absurd (omega arith) }
 
   pub weaker : {R : ℕ → List ℕ → Got A} {p : List ℕ} {e n : ℕ} {T : A → List ℕ} {fine : A → Type 0} → ((a : A) → ok a → (S a ≡ T a) × fine a) → Reads R S ok p e n → Reads R T fine p e n
@@ -144,7 +144,7 @@ module _ {A : Type 0} {S : A → List ℕ} {ok : A → Type 0} where
         reading = λ bs l. (let x = r.reading bs l in record { front = x.front; splits = x.splits; local = x.local; outcome = out (p ++ x.front) (R n bs) x.outcome });
       }
     where
-      on : (q : List ℕ) → Goes_on S ok q → Goes_on T fine q
+      on : (q : List ℕ) → GoesOn S ok q → GoesOn T fine q
       on q g = record { more = g.more; value = g.value; shows = g.shows ∙ (f g.value g.fine).0; fine = (f g.value g.fine).1 }
 
       out : (q : List ℕ) (g : Got A) → Outcome S ok q g → Outcome T fine q g
@@ -171,7 +171,7 @@ module _
     {A B : Type 0} {R : ℕ → List ℕ → Got A} {S : A → List ℕ} {ok : A → Type 0} {K : A → ℕ → List ℕ → Got B} {T : B → List ℕ} {fine : B → Type 0}
     (p : List ℕ) (e n f : ℕ) (big : (a : A) → ok a → e ≤ f + length (S a))
     (first : Reads R S ok [] e n) (second : (a : A) → ok a → Reads (K a) T fine (p ++ S a) f n) where
-  then_on : (q : List ℕ) → Goes_on S ok q → Goes_on T fine (p ++ q)
+  then_on : (q : List ℕ) → GoesOn S ok q → GoesOn T fine (p ++ q)
   then_on q g =
       (let h = (second g.value g.fine).goes_on in
       record {
@@ -220,7 +220,7 @@ module _
       (omega (arith, length-append r.front c, ap length r.splits, ap length r.outcome.shows, big a r.outcome.fine)))
 
   then_reads : Reads (seq R K) T fine p e n
-  then_reads = record { goes_on = subst (Goes_on T fine) (append-nil p) (then_on [] first.goes_on); reading = λ bs l. seq_by bs l (R n bs) (first.reading bs l) }
+  then_reads = record { goes_on = subst (GoesOn T fine) (append-nil p) (then_on [] first.goes_on); reading = λ bs l. seq_by bs l (R n bs) (first.reading bs l) }
 
 pub then :
     {A B : Type 0} {R : ℕ → List ℕ → Got A} {S : A → List ℕ} {ok : A → Type 0} {K : A → ℕ → List ℕ → Got B} {T : B → List ℕ} {fine : B → Type 0}

@@ -3,12 +3,12 @@ use Rattle.std.proofs.Common.{◌≡◌, ℕ, zero, suc, ◌+◌, ◌<◌, ◌�
 use Rattle.std.proofs.lemmas.Bool.{both_ways, and_from, eqb-true, cond-true, cond-false, cond_both}
 use Rattle.grammar.specs.Syntax.{is_letter, all, same, among, reserved, is_word, is_name, is_operand, newline, Term, number, word, two, Lines, none, assign, draw, say, send, when, choose, again, show_term, show_lines, spelled_term, spelled_lines}
 use Rattle.grammar.specs.Parse.{Got, got, bad, and_then, expect, read_word, read_number, read_two, read_plain, read_term, read_expr, read_last, Close, by_end, by_else, Block, before_block, read_assign, read_by, read_lines}
-use Rattle.grammar.proofs.Reading.{Reads, Reading, Goes_on, done, fails, by_test, at_end, eats, sees, behind, shift, nothing_left, by_length, then, and_so}
+use Rattle.grammar.proofs.Reading.{Reads, Reading, GoesOn, done, fails, by_test, at_end, eats, sees, behind, shift, nothing_left, by_length, then, and_so}
 use Rattle.grammar.proofs.Words.{same_is}
 use Rattle.grammar.proofs.Full.{show_close, may_close}
 use Rattle.grammar.proofs.Leaves.{passes, expects, words, operands, numbers, signs, longer, name_operand, no_name, no_operand}
 
-term_on : Goes_on show_term (passes spelled_term) []
+term_on : GoesOn show_term (passes spelled_term) []
 unfolding show_term spelled_term all
 term_on = record { more = 48 ∷ []; value = number (48 ∷ []); shows = refl; fine = refl }
 
@@ -79,7 +79,7 @@ before n els p f r s o =
     (record { spells = o b.lines h.spells; closes = h.closes }))
 
 -- A word of the language at the front of a line goes on to a name, to which 0 is assigned.
-word_on : (els : Bool) (w : List ℕ) → among w reserved ≡ true → Goes_on show_block (Fine els) w
+word_on : (els : Bool) (w : List ℕ) → among w reserved ≡ true → GoesOn show_block (Fine els) w
 unfolding show_lines show_term spelled_lines spelled_term all
 word_on els w h =
     record {
@@ -114,7 +114,7 @@ module _ (n : ℕ) (els : Bool) (r : Blocks els [] n (λ m. read_lines m els)) (
       (λ ls h. and_from (is_name w) _ name (and_from (spelled_term t) _ o h))
 
   -- A value is there, and then the line and the block end.
-  value_on : (p : List ℕ) (v : List ℕ) (t : Term) → spelled_term t ≡ true → p ++ v ≡ (w ++ codes " = ") ++ show_term t → Goes_on show_block (Fine els) p
+  value_on : (p : List ℕ) (v : List ℕ) (t : Term) → spelled_term t ≡ true → p ++ v ≡ (w ++ codes " = ") ++ show_term t → GoesOn show_block (Fine els) p
   unfolding show_lines spelled_lines
   value_on p v t o q =
       record {
@@ -133,7 +133,7 @@ module _ (n : ℕ) (els : Bool) (r : Blocks els [] n (λ m. read_lines m els)) (
       (λ f. fails (value_on ((w ++ codes " = ") ++ v) (120 ∷ []) (word (v ++ 120 ∷ [])) (name_operand (v ++ 120 ∷ []) (longer v (no_operand v h f)))
       (append_assoc (w ++ codes " = ") v (120 ∷ [])))))
 
-  zero_on : Goes_on show_block (Fine els) (w ++ codes " = ")
+  zero_on : GoesOn show_block (Fine els) (w ++ codes " = ")
   unfolding show_term spelled_term all
   zero_on = value_on (w ++ codes " = ") (48 ∷ []) (number (48 ∷ [])) refl refl
 
@@ -226,7 +226,7 @@ module _ (n : ℕ) (r : (els : Bool) → Blocks els [] n (λ m. read_lines m els
       (λ t. behind (same_is w _ t) (and_so (expects (codes " ")) (λ _ _. and_so lasts (λ t o. and_so (r false) (repeated t o))))) (λ _.
       by_test (is_name w) (λ t. assign_reads n els (r els) w t) (λ f. fails (word_on els w (no_name w h f)))))))))
 
-block_on : (els : Bool) → Goes_on show_block (Fine els) []
+block_on : (els : Bool) → GoesOn show_block (Fine els) []
 unfolding show_lines spelled_lines
 block_on els = record { more = codes "end" ++ newline; value = record { lines = none; close = by_end }; shows = refl; fine = record { spells = refl; closes = refl } }
 
