@@ -1,5 +1,5 @@
 #!/bin/sh
-# Builds the verified library and bench/phold.rs, and prints the table of the benchmark. Writes only under target/.
+# Builds the verified library and bench/phold.rs, and prints the table of the benchmark. Writes only under target/ and the crates' out/.
 set -eu
 
 usage='usage: bench/phold.sh [--built]

@@ -5,7 +5,7 @@
 Random models are written, read and written again: the model must be the same, and the bytes. Good texts are then changed byte by byte (changed,
 dropped, doubled, cut off), word by word and line by line, and what tests/reader.py says is compared with a second judge that has nothing in
 common with it: the form by all the ways in which a text could go on, names and numbers by patterns. With --program, `CMD FILE` is run for each
-text too and is to print `taken` or `refused N at P`. With --table-program target/bin/table all texts are given to that program at once, which
+text too and is to print `taken` or `refused N at P`. With --table-program crates/table/out/table all texts are given to that program at once, which
 reads each with the verified reader, and writes each that is taken anew twice. --texts bounds how many changed texts are tried, --each how many of one text and one
 way of changing it. The texts of the table are tried and changed too.
 """

@@ -1,5 +1,5 @@
 -- Workers and the letters under way between them, for any kind of workers: what a turn makes of them, and what is promised.
-use Rattle.std.specs.Prelude.{◌≡◌, ℕ, zero, suc, ◌+◌, ◌-◌, ◌*◌, ◌/◌, ◌%◌, ◌<◌, ◌≤◌, Bool, true, false, cond, ◌≢◌, List, [], ◌∷◌, ◌++◌, length, get_or, nat_lt, slice_index_or, slice_set}
+use Rattle.std.specs.Prelude.{◌≡◌, ℕ, zero, suc, ◌+◌, ◌-◌, ◌*◌, ◌/◌, ◌%◌, ◌<◌, ◌≤◌, Bool, true, false, cond, ◌≢◌, List, [], ◌∷◌, ◌++◌, length, nat_lt, slice_index_or, slice_set}
 use Rattle.meaning.specs.declared.Message.{Message}
 use Rattle.meaning.specs.declared.Line.{Line}
 use Rattle.meaning.specs.Model.{Model, steps, step, start}
@@ -65,7 +65,7 @@ module _ (Worker Letter : Type 0) (begin : Given → ℕ → Worker) (work : Wor
   turn d net (hands k) =
       cond (nat_lt k (length net.cable))
       (record {
-        workers = slice_set net.workers (get_or net.cable k nothing).0 (read (slice_index_or net.workers (get_or net.cable k nothing).0 d) (get_or net.cable k nothing).1);
+        workers = slice_set net.workers (slice_index_or net.cable k nothing).0 (read (slice_index_or net.workers (slice_index_or net.cable k nothing).0 d) (slice_index_or net.cable k nothing).1);
         cable = net.cable;
       })
       net

@@ -1,4 +1,4 @@
-// plain: plays models one message after the other, and prints what they say. Until texts are read it has a table of models.
+// plain: plays the models of a table one message after the other, and prints what they say.
 #![tactic(auto)]
 
 ghost use Rattle.std.specs.Prelude.{◌≡◌, ◌*◌, length, IfOk, vec_len};

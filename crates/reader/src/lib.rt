@@ -1,5 +1,5 @@
 // Whether bytes have the form of a text: each function answers where what it reads ends, or the first byte at which no text goes on so.
-// The recursion goes as deep as lines and parentheses do; what reads a file asks first that no line is longer than a text's lines may be.
+// The recursion goes as deep as lines and parentheses do, and nothing guards its stack; `checker` is what programs read files with.
 #![tactic(auto)]
 
 ghost use Rattle.std.specs.Prelude.{◌≡◌, ℕ, ◌+◌, ◌<◌, ◌≤◌, length, drop, IfOk, MatchResult};

@@ -1,5 +1,5 @@
 -- Models that have a text: what is kept of them, with its bounds; and what is promised of texts and models.
-use Rattle.std.specs.Prelude.{◌≡◌, ℕ, suc, ◌≤◌, max, Bool, true, ◌&&◌, ltb, List, map, length, ◌==◌, nat_le, nat_lt, slice_index}
+use Rattle.std.specs.Prelude.{◌≡◌, ℕ, suc, ◌≤◌, max, Bool, true, ◌&&◌, List, map, length, ◌==◌, nat_le, nat_lt, slice_index}
 use Rattle.meaning.specs.Model.{Expr, fixed, var, it, me, clock, plus, minus, times, over, remains, less, same, Body, stop, assign, draw, say, send, branch, repeat}
 use Rattle.grammar.specs.Syntax.{Text, IsText, is_name, every, show}
 use Rattle.grammar.specs.Check.{too_large, most_names, most_deep, most_lines, most_things, most_notes, text_bytes}
@@ -49,7 +49,7 @@ bounded_kind k =
 -- A process is of a kind that there is, and has a number below 2^32 for each of its numbers.
 abbrev pub bounded_thing : List NamedKind → Made → Bool
 bounded_thing ks x =
-    nat_lt x.kind (length ks) && (length x.numbers == slice_index (map (λ k. length k.numbers) ks) x.kind && every (λ a. ltb a too_large) x.numbers)
+    nat_lt x.kind (length ks) && (length x.numbers == slice_index (map (λ k. length k.numbers) ks) x.kind && every (λ a. nat_lt a too_large) x.numbers)
 
 -- A message is to one of so many processes, and its numbers are below 2^32.
 abbrev pub bounded_note : ℕ → Sent → Bool

@@ -1,4 +1,4 @@
-// A worker over lent memory: how it begins, a piece of its work, and a letter that it reads.
+// What a worker over lent memory is asked, where it stands and what a piece of its work did; specs/ has what it is to do.
 #![tactic(auto)]
 
 // What a worker is asked to do: with which end, seed and places, of how many workers it is which.

@@ -5,13 +5,13 @@ use Rattle.body.specs.Play.{Room, room, plays}
 use Rattle.body.proofs.Events.{played}
 use Rattle.body.proofs.measure.Goals as goal
 
-tally-in : Room → Tally
-tally-in r = record { seed = r.seed; sends = r.sent; lines = r.said }
+tally_in : Room → Tally
+tally_in r = record { seed = r.seed; sends = r.sent; lines = r.said }
 
 pub returns : goal.returns
-unfolding tally-in
+unfolding tally_in
 returns c =
-    ap tally-in
+    ap tally_in
     (played c.args.event c.args.code.now c.args.seed c.args.vars.now [] [] (omega arith) (omega arith)
     (room c.play.new.vars c.play.new.tally c.play.new.sends c.play.new.lines)
     (c.play.ensures
