@@ -387,8 +387,7 @@ pub fn handle(
 }
 
 // The words of lines stand for those lines, whatever stands behind them.
-pub fn words_decode() -> u8
+pub fn words_decode()
     ensures { WordsDecode }
 {
-    0
 }

@@ -3,3 +3,4 @@ pub mod Promise
 pub mod Law
 pub mod Worked
 pub mod Agree
+pub mod Printed

@@ -4,43 +4,37 @@
 ghost use Rattle.net.specs.Promise.{SameSaid, NeverBack, AllTold, Pieces, Fits, ComesToEnd};
 
 // What was told is a beginning of what the meaning says.
-pub fn same_said() -> u8
+pub fn same_said()
     ensures { SameSaid }
 {
-    0
 }
 
 // Nothing that was told is taken back.
-pub fn never_back() -> u8
+pub fn never_back()
     ensures { NeverBack }
 {
-    0
 }
 
 // When the first worker says that all is done, all was told, and the meaning has nothing more before the end.
-pub fn all_told() -> u8
+pub fn all_told()
     ensures { AllTold }
 {
-    0
 }
 
 // A piece of work writes at most 64 letters.
-pub fn pieces() -> u8
+pub fn pieces()
     ensures { Pieces }
 {
-    0
 }
 
 // A worker takes at most so many bytes for each place and each process of its own.
-pub fn fits() -> u8
+pub fn fits()
     ensures { Fits }
 {
-    0
 }
 
 // Fair rounds come to an end, if there are places enough.
-pub fn comes_to_end() -> u8
+pub fn comes_to_end()
     ensures { ComesToEnd }
 {
-    0
 }

@@ -316,8 +316,7 @@ pub fn sequential_run(
 }
 
 // In the row in lent memory messages wait in their order, and no two are the same.
-pub fn row_in_order() -> u8
+pub fn row_in_order()
     ensures { RowInOrder }
 {
-    0
 }

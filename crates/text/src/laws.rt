@@ -2,29 +2,25 @@
 ghost use Rattle.text.specs.Bounds.{OneModel, SaidBounded, HasText, WrittenAnew};
 
 // A text is one model at most.
-pub fn one_model() -> u8
+pub fn one_model()
     ensures { OneModel }
 {
-    0
 }
 
 // What a text says is in bounds.
-pub fn said_bounded() -> u8
+pub fn said_bounded()
     ensures { SaidBounded }
 {
-    0
 }
 
 // Every model in bounds has a text, the one that is written.
-pub fn has_text() -> u8
+pub fn has_text()
     ensures { HasText }
 {
-    0
 }
 
 // A text written anew is read as the same model, and is no longer than it was.
-pub fn written_anew() -> u8
+pub fn written_anew()
     ensures { WrittenAnew }
 {
-    0
 }
