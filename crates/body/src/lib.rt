@@ -389,5 +389,4 @@ pub fn handle(
 // The words of lines stand for those lines, whatever stands behind them.
 pub fn words_decode()
     ensures { WordsDecode }
-{
-}
+{}

@@ -317,35 +317,29 @@ pub fn read_letter(bytes: &[u8], from: usize, to: usize) -> Result<Letter, Refus
 // A letter is read back from its bytes.
 pub fn read_back()
     ensures { ReadBack }
-{
-}
+{}
 
 // What is read from bytes is the letter that they are.
 pub fn read_so()
     ensures { ReadSo }
-{
-}
+{}
 
 // No two letters have the same bytes.
 pub fn no_two()
     ensures { NoTwo }
-{
-}
+{}
 
 // A letter has at most 1,024 bytes.
 pub fn at_most()
     ensures { AtMost }
-{
-}
+{}
 
 // A message is read back from its bytes.
 pub fn messages_back()
     ensures { MessagesBack }
-{
-}
+{}
 
 // A line is read back from its bytes.
 pub fn lines_back()
     ensures { LinesBack }
-{
-}
+{}

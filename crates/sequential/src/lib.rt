@@ -318,5 +318,4 @@ pub fn sequential_run(
 // In the row in lent memory messages wait in their order, and no two are the same.
 pub fn row_in_order()
     ensures { RowInOrder }
-{
-}
+{}

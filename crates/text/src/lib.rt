@@ -15,11 +15,9 @@ pub use writer::write;
 // The digits of a number are read as that number.
 pub fn digits_read()
     ensures { DigitsRead }
-{
-}
+{}
 
 // Slices that a text fills hold what the text says.
 pub fn filled_holds()
     ensures { FilledHolds }
-{
-}
+{}
