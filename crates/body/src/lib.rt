@@ -14,7 +14,7 @@ const ROUNDS: u32 = 1000;
 
 const WHOLE: u64 = 4294967296;
 
-#[derive(Clone, Copy)]
+#[derive(Clone, Copy, Debug, PartialEq, Eq)]
 pub enum Binary {
     Plus,
     Minus,
@@ -26,7 +26,7 @@ pub enum Binary {
 }
 
 // How an expression opens.
-#[derive(Clone, Copy)]
+#[derive(Clone, Copy, Debug, PartialEq, Eq)]
 pub enum ExprOp {
     Fixed,
     Var,
@@ -38,7 +38,7 @@ pub enum ExprOp {
 }
 
 // A line with no lines in it.
-#[derive(Clone, Copy)]
+#[derive(Clone, Copy, Debug, PartialEq, Eq)]
 pub enum Act {
     Assign,
     Draw,
@@ -47,7 +47,7 @@ pub enum Act {
 }
 
 // How a line opens.
-#[derive(Clone, Copy)]
+#[derive(Clone, Copy, Debug, PartialEq, Eq)]
 pub enum LineOp {
     Stop,
     Do(Act),
@@ -57,7 +57,7 @@ pub enum LineOp {
 
 // A message that is handled, as its lines see it: what `it`, `me` and `now` are, how many processes there are, and how many messages
 // this one has sent before.
-#[derive(Clone, Copy)]
+#[derive(Clone, Copy, Debug, PartialEq, Eq)]
 pub struct Event {
     pub it: u32,
     pub me: u32,
@@ -67,7 +67,7 @@ pub struct Event {
 }
 
 // The seed, and how many messages were sent and lines said at one event.
-#[derive(Clone, Copy)]
+#[derive(Clone, Copy, Debug, PartialEq, Eq)]
 pub struct Tally {
     pub seed: u32,
     pub sends: u64,
@@ -75,7 +75,7 @@ pub struct Tally {
 }
 
 // A process in lent memory, beside its variables: its kind, how many variables it has, its seed, and how many messages it has sent.
-#[derive(Clone, Copy)]
+#[derive(Clone, Copy, Debug, Default, PartialEq, Eq)]
 #[repr(C)]
 pub struct Process {
     pub kind: u32,
@@ -85,37 +85,42 @@ pub struct Process {
 }
 
 // How many messages a process sent and lines it said at one message.
-#[derive(Clone, Copy)]
+#[derive(Clone, Copy, Debug, PartialEq, Eq)]
 pub struct Counts {
     pub sends: usize,
     pub lines: usize,
 }
 
 // Why a message cannot be handled: no place for a message or a line, or the process's count would reach 2^64.
-#[derive(Clone, Copy)]
+#[derive(Clone, Copy, Debug, PartialEq, Eq)]
 pub enum Refusal {
     Sends,
     Lines,
     Count,
 }
 
-fn expr_op(word: u32) -> ExprOp
-    ensures { result ≡ expr_op word }
-{
-    match word {
-        0 => ExprOp::Fixed,
-        1 => ExprOp::Var,
-        2 => ExprOp::It,
-        3 => ExprOp::Me,
-        4 => ExprOp::Clock,
-        5 => ExprOp::Two(Binary::Plus),
-        6 => ExprOp::Two(Binary::Minus),
-        7 => ExprOp::Two(Binary::Times),
-        8 => ExprOp::Two(Binary::Over),
-        9 => ExprOp::Two(Binary::Remains),
-        10 => ExprOp::Two(Binary::Less),
-        11 => ExprOp::Two(Binary::Same),
-        _ => ExprOp::Nothing,
+impl From<u32> for ExprOp {
+    ghost use Rattle.std.specs.Prelude.{◌≡◌};
+    ghost use Rattle.body.specs.Code.{expr_op};
+
+    ghost from_gives = { λ word op. op ≡ expr_op word };
+
+    fn from(word: u32) -> Self {
+        match word {
+            0 => ExprOp::Fixed,
+            1 => ExprOp::Var,
+            2 => ExprOp::It,
+            3 => ExprOp::Me,
+            4 => ExprOp::Clock,
+            5 => ExprOp::Two(Binary::Plus),
+            6 => ExprOp::Two(Binary::Minus),
+            7 => ExprOp::Two(Binary::Times),
+            8 => ExprOp::Two(Binary::Over),
+            9 => ExprOp::Two(Binary::Remains),
+            10 => ExprOp::Two(Binary::Less),
+            11 => ExprOp::Two(Binary::Same),
+            _ => ExprOp::Nothing,
+        }
     }
 }
 
@@ -139,18 +144,14 @@ fn apply(op: Binary, a: u32, b: u32) -> u32
 fn word(words: &[u32], k: usize) -> u32
     ensures { result ≡ slice_index words.now k }
 {
-    if k < words.len() { words[k] } else { 0 }
+    words.get(k).copied().unwrap_or(0)
 }
 
-// The words behind the first k.
-pub fn skip(words: &[u32], k: usize) -> &[u32]
-    ensures { result.now ≡ drop k words.now }
+// What lies behind the first k.
+pub fn skip<T>(items: &[T], k: usize) -> &[T]
+    ensures { result.now ≡ drop k items.now }
 {
-    if k < words.len() {
-        &words[k..]
-    } else {
-        &words[words.len()..]
-    }
+    items.get(k..).unwrap_or(&[])
 }
 
 // What the expression at the front of the code comes to, and the code behind it.
@@ -161,7 +162,7 @@ fn eval<'a>(code: &'a [u32], fuel: usize, event: Event, vars: &[u32]) -> (u32, &
         return (0, code);
     }
     let rest = skip(code, 1);
-    match expr_op(code[0]) {
+    match ExprOp::from(code[0]) {
         ExprOp::Fixed => (word(rest, 0), skip(rest, 1)),
         ExprOp::Var => (word(vars, word(rest, 0) as usize), skip(rest, 1)),
         ExprOp::It => (event.it, rest),
@@ -178,17 +179,22 @@ fn eval<'a>(code: &'a [u32], fuel: usize, event: Event, vars: &[u32]) -> (u32, &
     }
 }
 
-fn line_op(word: u32) -> LineOp
-    ensures { result ≡ line_op word }
-{
-    match word {
-        1 => LineOp::Do(Act::Assign),
-        2 => LineOp::Do(Act::Draw),
-        3 => LineOp::Do(Act::Say),
-        4 => LineOp::Do(Act::Send),
-        5 => LineOp::Branch,
-        6 => LineOp::Repeat,
-        _ => LineOp::Stop,
+impl From<u32> for LineOp {
+    ghost use Rattle.std.specs.Prelude.{◌≡◌};
+    ghost use Rattle.body.specs.Code.{line_op};
+
+    ghost from_gives = { λ word op. op ≡ line_op word };
+
+    fn from(word: u32) -> Self {
+        match word {
+            1 => LineOp::Do(Act::Assign),
+            2 => LineOp::Do(Act::Draw),
+            3 => LineOp::Do(Act::Say),
+            4 => LineOp::Do(Act::Send),
+            5 => LineOp::Branch,
+            6 => LineOp::Repeat,
+            _ => LineOp::Stop,
+        }
     }
 }
 
@@ -298,7 +304,7 @@ fn play(
     ensures { room vars.new tally.new sends.new lines.new ≡ plays event (body_of fuel code.now) (room vars.old tally.old sends.old lines.old) }
 {
     while fuel > 0 && !code.is_empty() {
-        let op = line_op(code[0]);
+        let op = LineOp::from(code[0]);
         let rest = skip(code, 1);
         fuel -= 1;
         match op {
