@@ -7,7 +7,8 @@ use Rattle.body.specs.declared.Act.{Act}
 use Rattle.body.specs.declared.LineOp.{LineOp}
 use Rattle.body.specs.declared.LineOp.TheVariants.{Stop, Do, Branch, Repeat}
 use Rattle.body.specs.Code.{body_of, body_by, expr_of, line_op, Evaluated}
-use Rattle.body.specs.Play.{Room, plays, value_at, Acted}
+use Rattle.body.specs.declared.Frame.{Frame}
+use Rattle.body.specs.Play.{Room, plays, value_at, Acted, SameLent}
 use Rattle.body.proofs.Words.{some_left}
 
 pub body_step : (n : ℕ) (ws : List ℕ) → 0 < n → 0 < length ws → body_of n ws ≡ body_by (line_op (get_or ws 0 0)) (expr_of (n - 1)) (body_of (n - 1)) (drop 1 ws)
@@ -83,3 +84,8 @@ pub iterate_none : {A : Type 0} (f : A → A) (n : ℕ) (r : A) → n ≡ 0 → 
 unfolding iterate
 iterate_none f zero r h = refl
 iterate_none f (suc n) r h = absurd (omega arith)
+
+-- What keeps the event and the lent slices, twice.
+pub same_then : {f g h : Frame} → SameLent f g → SameLent g h → SameLent f h
+same_then s t =
+    record { event = t.event ∙ s.event; vars = t.vars ∙ s.vars; sends = t.sends ∙ s.sends; lines = t.lines ∙ s.lines }
