@@ -1,5 +1,5 @@
 -- Lines with no lines in them: what the code does for each is what they say.
-use Rattle.std.proofs.Common.{◌≡◌, ℕ, ◌+◌, ◌<◌, ◌≤◌, min, List, get_or, drop, set, sym, refl, ◌∙◌, subst, ap₂}
+use Rattle.std.proofs.Common.{◌≡◌, ℕ, List, get_or, drop, set, sym, refl, ◌∙◌, subst, ap₂}
 use Rattle.meaning.specs.Model.{Body, next_seed, drawn}
 use Rattle.body.specs.declared.Event.{Event}
 use Rattle.body.specs.declared.Act.{Act}

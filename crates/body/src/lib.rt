@@ -5,7 +5,7 @@ ghost use Rattle.body.specs.Play.{SameLent, room_in, put_line, put_sent, Lent, l
 ghost use Rattle.meaning.specs.Model.{next_seed, drawn};
 ghost use Rattle.std.specs.Prelude.{◌≡◌, ℕ, ◌<◌, ◌≤◌, length, drop, slice_index, slice_set};
 ghost use Rattle.body.specs.Code.{expr_op, line_op, binary_result, Evaluated, body_of};
-ghost use Rattle.body.specs.Encode.{WordsDecode};
+ghost use Rattle.body.specs.Encode.{OperationsBack, WordsDecode};
 
 use meaning::{Line, Message};
 
@@ -137,6 +137,32 @@ impl From<u32> for ExprOp {
     }
 }
 
+// The word that opens an expression so.
+impl From<ExprOp> for u32 {
+    ghost use Rattle.std.specs.Prelude.{◌≡◌};
+    ghost use Rattle.body.specs.Code.{expr_word};
+
+    ghost from_gives = { λ op word. word ≡ expr_word op };
+
+    fn from(op: ExprOp) -> Self {
+        match op {
+            ExprOp::Fixed => 0,
+            ExprOp::Var => 1,
+            ExprOp::It => 2,
+            ExprOp::Me => 3,
+            ExprOp::Clock => 4,
+            ExprOp::Two(Binary::Plus) => 5,
+            ExprOp::Two(Binary::Minus) => 6,
+            ExprOp::Two(Binary::Times) => 7,
+            ExprOp::Two(Binary::Over) => 8,
+            ExprOp::Two(Binary::Remains) => 9,
+            ExprOp::Two(Binary::Less) => 10,
+            ExprOp::Two(Binary::Same) => 11,
+            ExprOp::Nothing => 12,
+        }
+    }
+}
+
 fn apply(op: Binary, a: u32, b: u32) -> u32
     ensures { result ≡ binary_result op a b }
 {
@@ -207,6 +233,26 @@ impl From<u32> for LineOp {
             5 => LineOp::Branch,
             6 => LineOp::Repeat,
             _ => LineOp::Stop,
+        }
+    }
+}
+
+// The word that opens a line so.
+impl From<LineOp> for u32 {
+    ghost use Rattle.std.specs.Prelude.{◌≡◌};
+    ghost use Rattle.body.specs.Code.{line_word};
+
+    ghost from_gives = { λ op word. word ≡ line_word op };
+
+    fn from(op: LineOp) -> Self {
+        match op {
+            LineOp::Stop => 0,
+            LineOp::Do(Act::Assign) => 1,
+            LineOp::Do(Act::Draw) => 2,
+            LineOp::Do(Act::Say) => 3,
+            LineOp::Do(Act::Send) => 4,
+            LineOp::Branch => 5,
+            LineOp::Repeat => 6,
         }
     }
 }
@@ -306,7 +352,11 @@ impl Frame<'_> {
             Act::Draw => {
                 let (n, behind) = self.eval(skip(code, 1), fuel);
                 self.tally.seed = next_seed(self.tally.seed);
-                place(self.vars, u64::from(word(code, 0)), drawn_below(self.tally.seed, n));
+                place(
+                    self.vars,
+                    u64::from(word(code, 0)),
+                    drawn_below(self.tally.seed, n),
+                );
                 behind
             }
             Act::Say => {
@@ -325,29 +375,29 @@ impl Frame<'_> {
     }
 
     // The lines at the front of the code, one after the other; fuel falls with each line and each depth.
-    fn play(&mut self, mut code: &[u32], mut fuel: usize)
+    fn play(&mut self, mut code: &[u32], fuel: usize)
         ensures same { SameLent self.old self.new }
         ensures plays { room_in self.new ≡ plays self.old.event (body_of fuel code.now) (room_in self.old) }
     {
-        while fuel > 0 && !code.is_empty() {
-            let op = LineOp::from(code[0]);
-            let rest = skip(code, 1);
-            fuel -= 1;
-            match op {
+        for left in (0..fuel).rev() {
+            let Some((first, rest)) = code.split_first() else {
+                return;
+            };
+            match LineOp::from(*first) {
                 LineOp::Stop => return,
-                LineOp::Do(act) => code = self.perform(act, rest, fuel),
+                LineOp::Do(act) => code = self.perform(act, rest, left),
                 LineOp::Branch => {
-                    let (x, then) = self.eval(skip(rest, 2), fuel);
+                    let (x, then) = self.eval(skip(rest, 2), left);
                     let otherwise = skip(then, word(rest, 0) as usize);
                     let chosen = if x == 0 { otherwise } else { then };
-                    self.play(chosen, fuel);
+                    self.play(chosen, left);
                     code = skip(otherwise, word(rest, 1) as usize);
                 }
                 LineOp::Repeat => {
-                    let (x, body) = self.eval(skip(rest, 1), fuel);
+                    let (x, body) = self.eval(skip(rest, 1), left);
                     let turns = x.min(ROUNDS);
                     for _turn in 0..turns {
-                        self.play(body, fuel);
+                        self.play(body, left);
                     }
                     code = skip(body, word(rest, 0) as usize);
                 }
@@ -427,4 +477,9 @@ pub fn handle(
 // The words of lines stand for those lines, whatever stands behind them.
 pub fn words_decode()
     ensures { WordsDecode }
+{}
+
+// The word of each operation opens just that operation.
+pub fn operations_back()
+    ensures { OperationsBack }
 {}

@@ -1,4 +1,4 @@
-use Rattle.std.proofs.Common.{◌≡◌, ◌-◌, ◌<◌, ◌≤◌, length, subst, ◌∙◌, arith, rules}
+use Rattle.std.proofs.Common.{◌≡◌, ◌-◌, ◌<◌, ◌≤◌, length, subst, arith, rules}
 use Rattle.body.specs.Code.{body_of}
 use Rattle.body.specs.Play.{room, room_in, plays, top, does}
 use Rattle.body.proofs.Events.{does_sent, refuses_count, kept, lent_by}
@@ -19,7 +19,7 @@ overflow_add-process c =
     kept (record { it = c.args.m.number; me = c.args.m.to; clock = c.args.m.time; processes = c.args.processes; sent = c.args.process.now.sent })
     c.args.code.now c.args.process.now.seed c.args.vars.now c.args.sends.now c.args.lines.now
     (room_in c.play.new.self) c.measure-need.result
-    (omega arith) (omega arith) (omega arith) c.measure-need.ensures c.if-need-sends.false c.if-need-lines.false c.if-need-process.false 
+    (omega arith) (omega arith) (omega arith) c.measure-need.ensures c.if-need-sends.false c.if-need-lines.false c.if-need-process.false
     (subst (λ t. room_in c.play.new.self ≡ plays (record { it = c.args.m.number; me = c.args.m.to; clock = c.args.m.time; processes = c.args.processes; sent = c.args.process.now.sent })
     (body_of (length c.args.code.now) c.args.code.now) (room c.args.vars.now t c.args.sends.now c.args.lines.now)) c.new.ensures c.play.ensures.plays) in
     omega (arith, k.sent)
@@ -30,7 +30,7 @@ returns-clause-answers c =
     kept (record { it = c.args.m.number; me = c.args.m.to; clock = c.args.m.time; processes = c.args.processes; sent = c.args.process.now.sent })
     c.args.code.now c.args.process.now.seed c.args.vars.now c.args.sends.now c.args.lines.now
     (room_in c.play.new.self) c.measure-need.result
-    (omega arith) (omega arith) (omega arith) c.measure-need.ensures c.if-need-sends.false c.if-need-lines.false c.if-need-process.false 
+    (omega arith) (omega arith) (omega arith) c.measure-need.ensures c.if-need-sends.false c.if-need-lines.false c.if-need-process.false
     (subst (λ t. room_in c.play.new.self ≡ plays (record { it = c.args.m.number; me = c.args.m.to; clock = c.args.m.time; processes = c.args.processes; sent = c.args.process.now.sent })
     (body_of (length c.args.code.now) c.args.code.now) (room c.args.vars.now t c.args.sends.now c.args.lines.now)) c.new.ensures c.play.ensures.plays) in
     k.answer_is
@@ -41,7 +41,7 @@ returns-clause-holds c =
     kept (record { it = c.args.m.number; me = c.args.m.to; clock = c.args.m.time; processes = c.args.processes; sent = c.args.process.now.sent })
     c.args.code.now c.args.process.now.seed c.args.vars.now c.args.sends.now c.args.lines.now
     (room_in c.play.new.self) c.measure-need.result
-    (omega arith) (omega arith) (omega arith) c.measure-need.ensures c.if-need-sends.false c.if-need-lines.false c.if-need-process.false 
+    (omega arith) (omega arith) (omega arith) c.measure-need.ensures c.if-need-sends.false c.if-need-lines.false c.if-need-process.false
     (subst (λ t. room_in c.play.new.self ≡ plays (record { it = c.args.m.number; me = c.args.m.to; clock = c.args.m.time; processes = c.args.processes; sent = c.args.process.now.sent })
     (body_of (length c.args.code.now) c.args.code.now) (room c.args.vars.now t c.args.sends.now c.args.lines.now)) c.new.ensures c.play.ensures.plays) in
     lent_by _ _ _ c.play.new.self.vars.now _ _ c.play.new.self.sends.now _ _ c.play.new.self.lines.now _
