@@ -5,7 +5,7 @@
 ghost use Rattle.std.specs.Prelude.{◌≡◌, ◌+◌, ◌<◌, length, MatchOption, MatchResult};
 ghost use Rattle.meaning.specs.Model.{before};
 ghost use Rattle.meaning.specs.Promise.{Sorted};
-ghost use Rattle.queue.specs.Row.{Fresh, Inserted, InsertedAll, Refused, Taken, Untaken, first_of, waiting};
+ghost use Rattle.queue.specs.Row.{Fresh, Inserted, InsertedAll, Parts, Refused, Taken, Untaken, first_of, waiting};
 
 use meaning::Message;
 
@@ -17,25 +17,14 @@ pub struct Full;
 pub fn is_before(a: Message, b: Message) -> bool
     ensures { result ≡ before a b }
 {
-    if a.time != b.time {
-        a.time < b.time
-    } else if a.to != b.to {
-        a.to < b.to
-    } else if a.from != b.from {
-        a.from < b.from
-    } else {
-        a.count < b.count
-    }
+    (a.time, a.to, a.from, a.count) < (b.time, b.to, b.from, b.count)
 }
 
 // The first to be handled.
 pub fn first(row: &[Message], len: usize) -> Option<Message>
     ensures { result ≡ first_of row.now len }
 {
-    if len == 0 || len > row.len() {
-        return None;
-    }
-    Some(row[len - 1])
+    row.get(..len)?.last().copied()
 }
 
 // The first to be handled, which then waits no more.
@@ -53,20 +42,23 @@ pub fn take_first(row: &[Message], len: &mut usize) -> Option<Message>
     Some(x)
 }
 
+// How many of those that wait are handled after m: the others lie behind them, nearer the end of the row.
+fn count_after(waiting: &[Message], m: Message) -> usize
+    ensures { Parts m waiting.now result }
+{
+    waiting
+        .iter()
+        .rposition(|other| is_before(m, *other))
+        .map_or(0, |k| k + 1)
+}
+
 // Puts m in where it belongs; the row has a place for it.
 fn place(row: &mut [Message], len: usize, m: Message)
     requires { len < length row.old }
     ensures { Inserted m row.old len row.new (len + 1) }
 {
-    let mut at = len;
-    while at > 0 {
-        let other = row[at - 1];
-        if is_before(m, other) {
-            break;
-        }
-        row[at] = other;
-        at -= 1;
-    }
+    let at = count_after(&row[..len], m);
+    row.copy_within(at..len, at + 1);
     row[at] = m;
 }
 
