@@ -1,5 +1,5 @@
 -- Messages that wait in a row: the first `len` places are in use, and the last in use is the first to be handled.
-use Rattle.std.specs.Prelude.{◌≡◌, ℕ, ◌+◌, ◌<◌, ◌-◌, ◌≤◌, true, false, cond, ◌⊎◌, List, [], ◌∷◌, reverse, length, take, drop, Some, None, Option, nat_le, slice_index_or}
+use Rattle.std.specs.Prelude.{◌≡◌, ℕ, ◌+◌, ◌<◌, ◌≤◌, true, cond, ◌⊎◌, List, [], ◌∷◌, reverse, length, take, drop, Some, None, Option, nat_le}
 use Rattle.std.specs.List.{AllByRecursion}
 use Rattle.meaning.specs.declared.Message.{Message}
 use Rattle.meaning.specs.Model.{before, insert, insert_all}
@@ -20,12 +20,6 @@ first_of row len = cond (nat_le len (length row)) (head_of (waiting row len)) No
 -- m comes before or after each of ys: none of them has its key.
 abbrev pub Fresh : Message → List Message → Type 0
 Fresh m ys = AllByRecursion (λ y. (before m y ≡ true) ⊎ (before y m ≡ true)) ys
-
--- m goes between the first k and the others: it comes before the last of those k, and not before any of the others.
-pub record Parts (m : Message) (ys : List Message) (k : ℕ) : Type 0 where
-  pub within : k ≤ length ys
-  pub before_last : (d : Message) → 0 < k → before m (slice_index_or ys (k - 1) d) ≡ true
-  pub behind_others : (d : Message) (j : ℕ) → k ≤ j → j < length ys → before m (slice_index_or ys j d) ≡ false
 
 -- m was put in among those that waited, and the places behind are as they were.
 pub record Inserted (m : Message) (row : List Message) (len : ℕ) (row' : List Message) (len' : ℕ) : Type 0 where

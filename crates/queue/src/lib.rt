@@ -5,7 +5,7 @@
 ghost use Rattle.std.specs.Prelude.{◌≡◌, ◌+◌, ◌<◌, length, MatchOption, MatchResult};
 ghost use Rattle.meaning.specs.Model.{before};
 ghost use Rattle.meaning.specs.Promise.{Sorted};
-ghost use Rattle.queue.specs.Row.{Fresh, Inserted, InsertedAll, Parts, Refused, Taken, Untaken, first_of, waiting};
+ghost use Rattle.queue.specs.Row.{Fresh, Inserted, InsertedAll, Refused, Taken, Untaken, first_of, waiting};
 
 use meaning::Message;
 
@@ -42,24 +42,21 @@ pub fn take_first(row: &[Message], len: &mut usize) -> Option<Message>
     Some(x)
 }
 
-// How many of those that wait are handled after m: the others lie behind them, nearer the end of the row.
-fn count_after(waiting: &[Message], m: Message) -> usize
-    ensures { Parts m waiting.now result }
-{
-    waiting
-        .iter()
-        .rposition(|other| is_before(m, *other))
-        .map_or(0, |k| k + 1)
-}
-
-// Puts m in where it belongs; the row has a place for it.
+// Puts m in where it belongs; the row has a place for it. Looking for the place and then moving the others by `copy_within` takes
+// twice as long as this one pass.
 fn place(row: &mut [Message], len: usize, m: Message)
     requires { len < length row.old }
     ensures { Inserted m row.old len row.new (len + 1) }
 {
-    let at = count_after(&row[..len], m);
-    row.copy_within(at..len, at + 1);
-    row[at] = m;
+    for at in (0..len).rev() {
+        let other = row[at];
+        if is_before(m, other) {
+            row[at + 1] = m;
+            return;
+        }
+        row[at + 1] = other;
+    }
+    row[0] = m;
 }
 
 // Puts m in where it belongs, unless the row is full.
