@@ -8,26 +8,26 @@ returns c =
     let e : c.args.m.to * 64 + c.width_of.result - c.args.m.to * 64 ≡ c.width_of.result = omega arith in e ∙ c.width_of.ensures in
     record {
       answers =
-          answers_in c.args.code.now c.args.kinds.now c.args.processes.now c.args.vars.now c.args.m c.args.sends.now c.args.lines.now
+          answers_in c.args.program.code.now c.args.program.kinds.now c.args.processes.now c.args.vars.now c.args.m c.args.sends.now c.args.lines.now
           c.handle-done.new.process c.handle-done.new.vars (take (c.args.m.to * 64 + c.width_of.result - c.args.m.to * 64) (drop (c.args.m.to * 64) c.args.vars.now)) c.code_of-2.result.now
           (length c.args.processes.now) (c.args.m.to * 64 + c.width_of.result - c.args.m.to * 64) c.handle-done.result c.handle-done.new.sends c.handle-done.new.lines
-          c.if-k-count.false c.requires.wide width refl c.code_of-2.ensures refl c.handle-done.auto.vars c.handle-done.ensures.answers c.handle-done.ensures.holds;
+          c.if-k-processes.false c.requires.wide width refl c.code_of-2.ensures refl c.handle-done.auto.vars c.handle-done.ensures.answers c.handle-done.ensures.holds;
       holds =
-          holds_in c.args.code.now c.args.kinds.now c.args.processes.now c.args.vars.now c.args.m c.args.sends.now c.args.lines.now
+          holds_in c.args.program.code.now c.args.program.kinds.now c.args.processes.now c.args.vars.now c.args.m c.args.sends.now c.args.lines.now
           c.handle-done.new.process c.handle-done.new.vars (take (c.args.m.to * 64 + c.width_of.result - c.args.m.to * 64) (drop (c.args.m.to * 64) c.args.vars.now)) c.code_of-2.result.now
           (length c.args.processes.now) (c.args.m.to * 64 + c.width_of.result - c.args.m.to * 64) c.handle-done.result c.handle-done.new.sends c.handle-done.new.lines
-          c.if-k-count.false c.requires.wide width refl c.code_of-2.ensures refl c.handle-done.auto.vars c.handle-done.ensures.answers c.handle-done.ensures.holds;
+          c.if-k-processes.false c.requires.wide width refl c.code_of-2.ensures refl c.handle-done.auto.vars c.handle-done.ensures.answers c.handle-done.ensures.holds;
     }
 
-pub returns-then-k-count : goal.returns-then-k-count
-returns-then-k-count c =
+pub returns-then-k-processes : goal.returns-then-k-processes
+returns-then-k-processes c =
     record {
       answers =
-          nobody_answers c.args.code.now c.args.kinds.now c.args.processes.now c.args.vars.now c.args.m c.args.sends.now c.args.lines.now
+          nobody_answers c.args.program.code.now c.args.program.kinds.now c.args.processes.now c.args.vars.now c.args.m c.args.sends.now c.args.lines.now
           c.handle.new.process c.handle.new.vars c.code_of.result.now (length c.args.processes.now) c.handle.result c.handle.new.sends c.handle.new.lines
-          c.if-k-count.true c.code_of.ensures refl c.handle.ensures.answers c.handle.ensures.holds;
+          c.if-k-processes.true c.code_of.ensures refl c.handle.ensures.answers c.handle.ensures.holds;
       holds =
-          nobody_holds c.args.code.now c.args.kinds.now c.args.processes.now c.args.vars.now c.args.m c.args.sends.now c.args.lines.now
+          nobody_holds c.args.program.code.now c.args.program.kinds.now c.args.processes.now c.args.vars.now c.args.m c.args.sends.now c.args.lines.now
           c.handle.new.process c.handle.new.vars c.code_of.result.now (length c.args.processes.now) c.handle.result c.handle.new.sends c.handle.new.lines
-          c.if-k-count.true c.code_of.ensures refl c.handle.ensures.answers c.handle.ensures.holds;
+          c.if-k-processes.true c.code_of.ensures refl c.handle.ensures.answers c.handle.ensures.holds;
     }
