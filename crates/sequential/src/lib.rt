@@ -61,10 +61,9 @@ fn start_all(processes: &mut [Process], luck: u32)
     requires few { length processes.old ≤ 65536 }
     ensures { processes.new ≡ started luck 0 processes.old }
 {
-    for k in 0..processes.len() {
-        let seed = next_seed(next_seed(luck + k as u32));
-        let p = processes[k];
-        processes[k] = Process { seed, sent: 0, ..p };
+    for (k, process) in processes.iter_mut().enumerate() {
+        process.seed = next_seed(next_seed(luck + k as u32));
+        process.sent = 0;
     }
 }
 
@@ -143,12 +142,7 @@ fn handle_in(
     let k = m.to as usize;
     let count = processes.len() as u32;
     if k >= processes.len() {
-        let mut nobody = Process {
-            kind: 0,
-            width: 0,
-            seed: 0,
-            sent: 0,
-        };
+        let mut nobody = Process::default();
         return handle(
             program.code_of(0),
             count,

@@ -23,7 +23,7 @@ returns-in-Ok-clause-answers c ns =
     let lL : length (take (length c.args.self.now.lines.now - c.args.self.now.progress.now.said) (drop c.args.self.now.progress.now.said c.args.self.now.lines.now)) ≡ length c.args.self.now.lines.now - c.args.self.now.progress.now.said =
     omega (arith, length-take (length c.args.self.now.lines.now - c.args.self.now.progress.now.said) (drop c.args.self.now.progress.now.said c.args.self.now.lines.now), length-drop c.args.self.now.progress.now.said c.args.self.now.lines.now) in
     ap (from_answer c.args.self.now.progress.now.said) c.in-Ok.ensures.answers
-          ∙ stops_answer c.args.program.code.now c.args.program.kinds.now c.args.end (memory_in c.args.self.now) ns c.in-Some.m c.in-Some.waiting _ _ lS lL t.was_first lw (omega (arith, c.from.ensures, c.if-m-from.false)) c.requires.in_lines
+    ∙ stops_answer c.args.program.code.now c.args.program.kinds.now c.args.end (memory_in c.args.self.now) ns c.in-Some.m c.in-Some.waiting _ _ lS lL t.was_first lw (omega (arith, c.from.ensures, c.if-m-from.false)) c.requires.in_lines
 
 pub returns-in-Ok-clause-holds : goal.returns-in-Ok-clause-holds
 returns-in-Ok-clause-holds c =
@@ -34,9 +34,9 @@ returns-in-Ok-clause-holds c =
     let lL : length (take (length c.args.self.now.lines.now - c.args.self.now.progress.now.said) (drop c.args.self.now.progress.now.said c.args.self.now.lines.now)) ≡ length c.args.self.now.lines.now - c.args.self.now.progress.now.said =
     omega (arith, length-take (length c.args.self.now.lines.now - c.args.self.now.progress.now.said) (drop c.args.self.now.progress.now.said c.args.self.now.lines.now), length-drop c.args.self.now.progress.now.said c.args.self.now.lines.now) in
     stepped c.args.program.code.now c.args.program.kinds.now c.args.end (length c.args.sends.now) (memory_in c.args.self.now) c.in-Some.m c.in-Some.waiting
-          c.handle_in.new.processes c.handle_in.new.vars (take (length c.args.self.now.row.now - c.in-Some.waiting) c.args.sends.now) c.handle_in.new.sends (take (length c.args.self.now.lines.now - c.args.self.now.progress.now.said) (drop c.args.self.now.progress.now.said c.args.self.now.lines.now)) c.handle_in.new.lines c.in-Ok.counts _ c.insert_all.new.row c.insert_all.new.len _ _ c.insert_all.result
-          c.requires t.was_first lw (omega (arith, c.from.ensures, c.if-m-from.false)) lS lL c.in-Ok.ensures.answers c.in-Ok.ensures.holds (drop (length c.args.self.now.row.now - c.in-Some.waiting) c.args.sends.now) refl c.insert_all.ensures
-          c.handle_in.auto.processes c.handle_in.auto.vars c.insert_all.auto.row c.handle_in.auto.lines
+    c.handle_in.new.processes c.handle_in.new.vars (take (length c.args.self.now.row.now - c.in-Some.waiting) c.args.sends.now) c.handle_in.new.sends (take (length c.args.self.now.lines.now - c.args.self.now.progress.now.said) (drop c.args.self.now.progress.now.said c.args.self.now.lines.now)) c.handle_in.new.lines c.in-Ok.counts _ c.insert_all.new.row c.insert_all.new.len _ _ c.insert_all.result
+    c.requires t.was_first lw (omega (arith, c.from.ensures, c.if-m-from.false)) lS lL c.in-Ok.ensures.answers c.in-Ok.ensures.holds (drop (length c.args.self.now.row.now - c.in-Some.waiting) c.args.sends.now) refl c.insert_all.ensures
+    c.handle_in.auto.processes c.handle_in.auto.vars c.insert_all.auto.row c.handle_in.auto.lines
 
 pub returns-in-Err-clause-answers : goal.returns-in-Err-clause-answers
 returns-in-Err-clause-answers c ns =
@@ -48,8 +48,8 @@ returns-in-Err-clause-answers c ns =
     let lL : length (take (length c.args.self.now.lines.now - c.args.self.now.progress.now.said) (drop c.args.self.now.progress.now.said c.args.self.now.lines.now)) ≡ length c.args.self.now.lines.now - c.args.self.now.progress.now.said =
     omega (arith, length-take (length c.args.self.now.lines.now - c.args.self.now.progress.now.said) (drop c.args.self.now.progress.now.said c.args.self.now.lines.now), length-drop c.args.self.now.progress.now.said c.args.self.now.lines.now) in
     ap Some c.outcome_of.ensures
-          ∙ ap (from_answer said) c.in-Err.ensures.answers
-          ∙ stops_answer c.args.program.code.now c.args.program.kinds.now c.args.end (memory_in c.args.self.now) ns c.in-Some.m c.in-Some.waiting _ _ lS lL t.was_first lw (omega (arith, c.from.ensures, c.if-m-from.false)) c.requires.in_lines
+    ∙ ap (from_answer said) c.in-Err.ensures.answers
+    ∙ stops_answer c.args.program.code.now c.args.program.kinds.now c.args.end (memory_in c.args.self.now) ns c.in-Some.m c.in-Some.waiting _ _ lS lL t.was_first lw (omega (arith, c.from.ensures, c.if-m-from.false)) c.requires.in_lines
 
 pub returns-in-Ok-clause-same : goal.returns-in-Ok-clause-same
 returns-in-Ok-clause-same c =
