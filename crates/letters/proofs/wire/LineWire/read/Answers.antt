@@ -2,7 +2,7 @@ use Rattle.std.proofs.Common.{◌≡◌, ℕ, ◌+◌, ◌-◌, take, drop, ap, 
 use Rattle.meaning.specs.declared.Line.{Line}
 use Rattle.letters.specs.Letters.{number_at, line_bytes, line_of}
 use Rattle.letters.proofs.Fields.{line_exact, part_length, part_bytes}
-use Rattle.letters.proofs.read_line.Goals as goal
+use Rattle.letters.proofs.wire.LineWire.read.Goals as goal
 
 pub returns : goal.returns
 returns c =
@@ -11,9 +11,9 @@ returns c =
     let z : at + 16 - at ≡ 16 = omega arith in
     let cut : (i k : ℕ) → number_at (take (at + 16 - at) (drop at bs)) i k ≡ number_at (take 16 (drop at bs)) i k =
     λ i k. ap (λ n. number_at (take n (drop at bs)) i k) z in
-    let e0 = c.read_number.ensures.reads ∙ cut 0 8 in
-    let e8 = c.read_number-2.ensures.reads ∙ cut 8 4 in
-    let e12 = c.read_number-3.ensures.reads ∙ cut 12 4 in
+    let e0 = c.read.ensures.reads ∙ cut 0 8 in
+    let e8 = c.read-2.ensures.reads ∙ cut 8 4 in
+    let e12 = c.read-3.ensures.reads ∙ cut 12 4 in
     let e : ◌≡◌ {A = Line} _ (line_of (take 16 (drop at bs))) = λ i. record { time = e0 i; process = e8 i; number = e12 i } in
     record {
       reads = e;
