@@ -12,7 +12,7 @@ use meaning::{Line, Message};
 pub use wire::Wire;
 
 // A letter; the messages or lines that it carries stand as bytes behind it.
-#[derive(Clone, Copy)]
+#[derive(Clone, Copy, Debug, PartialEq, Eq)]
 pub enum Letter {
     // The sender's earliest time of an epoch; how long the reader's stream is as far as it was heard; a part of the sender's stream to the reader:
     // where it starts, whether the stream ends with it, and how many messages it has.
@@ -177,11 +177,7 @@ impl Letter {
     fn keep(self, n: usize) -> Option<Letter>
         ensures { result ≡ kept n self }
     {
-        if self.is_in_bounds() && n == self.size() {
-            Some(self)
-        } else {
-            None
-        }
+        (self.is_in_bounds() && n == self.size()).then_some(self)
     }
 }
 

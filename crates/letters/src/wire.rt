@@ -31,9 +31,11 @@ pub trait Wire: Copy {
         ensures reads { result ≡ of_bytes (take SIZE (drop at bytes.now)) }
         ensures exact { bytes_of result ≡ take SIZE (drop at bytes.now) };
 
+    // What fits its type is read back from its bytes.
     ghost back: { IsReadBack SIZE bytes_of of_bytes fits };
 }
 
+// The two impls for numbers stand apart, since the bytes of a number are methods of each type, and of no trait.
 impl Wire for u32 {
     const SIZE: usize = 4;
 
@@ -46,11 +48,11 @@ impl Wire for u32 {
     ghost fits = { λ n. nat_lt n (2 ^ 32) };
 
     fn write(self, out: &mut [u8], at: usize) {
-        out[at..at + 4].copy_from_slice(&self.to_le_bytes());
+        out[at..at + Self::SIZE].copy_from_slice(&self.to_le_bytes());
     }
 
     fn read(bytes: &[u8], at: usize) -> u32 {
-        u32::from_le_bytes(bytes[at..at + 4].try_into().unwrap())
+        u32::from_le_bytes(bytes[at..at + Self::SIZE].try_into().unwrap())
     }
 
     ghost back = { int_back };
@@ -68,11 +70,11 @@ impl Wire for u64 {
     ghost fits = { λ n. nat_lt n (2 ^ 64) };
 
     fn write(self, out: &mut [u8], at: usize) {
-        out[at..at + 8].copy_from_slice(&self.to_le_bytes());
+        out[at..at + Self::SIZE].copy_from_slice(&self.to_le_bytes());
     }
 
     fn read(bytes: &[u8], at: usize) -> u64 {
-        u64::from_le_bytes(bytes[at..at + 8].try_into().unwrap())
+        u64::from_le_bytes(bytes[at..at + Self::SIZE].try_into().unwrap())
     }
 
     ghost back = { long_back };
@@ -98,7 +100,7 @@ impl Wire for Message {
     }
 
     fn read(bytes: &[u8], at: usize) -> Message {
-        let part = &bytes[at..at + 28];
+        let part = &bytes[at..at + Self::SIZE];
         Message {
             time: u64::read(part, 0),
             to: u32::read(part, 8),
@@ -129,7 +131,7 @@ impl Wire for Line {
     }
 
     fn read(bytes: &[u8], at: usize) -> Line {
-        let part = &bytes[at..at + 16];
+        let part = &bytes[at..at + Self::SIZE];
         Line {
             time: u64::read(part, 0),
             process: u32::read(part, 8),
