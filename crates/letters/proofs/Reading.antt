@@ -1,14 +1,18 @@
 -- Letters are read back, and what is read is what the bytes are.
-use Rattle.std.proofs.Common.{◌≡◌, ℕ, ◌+◌, ◌-◌, ◌^◌, ◌<◌, ◌≤◌, Bool, true, false, cond, ◌&&◌, eqb, ltb, leb, ◌⊎◌, List, ◌∷◌, ◌++◌, length, get_or, take, drop, Some, None, Option, sym, refl, ap, ◌∙◌, subst, inl, inr, arith}
+use Rattle.std.proofs.Common.{◌≡◌, ℕ, ◌+◌, ◌-◌, ◌^◌, ◌<◌, ◌≤◌, Bool, true, false, cond, ◌&&◌, eqb, ltb, leb, ◌⊎◌, List, [], ◌∷◌, ◌++◌, length, get_or, take, drop, Some, None, Option, Result, MatchOption, MatchResult, Bor, ok_or, ◌≢◌, sym, refl, ap, ◌∙◌, subst, inl, inr, arith}
 use Rattle.std.specs.List.{AllByRecursion}
+use Rattle.std.specs.Slice.{IsGetRangeResult}
 use Rattle.std.proofs.lemmas.List.{append_assoc, append_cancel_left, drop_more, drop_at, drop-drop, get_or-drop, length-append, length-drop}
 use Rattle.std.proofs.ByRecursion.{All-drop, All-take}
-use Rattle.std.proofs.lemmas.Bool.{and_parts, and_from, ltb-true, lt-ltb, leb-true, eqb-true, eqb-false, eq-eqb, cond-true, cond-false, cases_Bool}
+use Rattle.std.proofs.lemmas.Bool.{and_parts, and_from, ltb-true, lt-ltb, leb-true, eqb-true, eqb-false, eq-eqb, ne_eqb, cond-true, cond-false, cases_Bool}
+use Rattle.checker.specs.declared.Refusal.{Refusal}
+use Rattle.letters.specs.declared.Tag.{Tag}
 use Rattle.letters.specs.declared.Letter.{Letter}
 use Rattle.letters.specs.declared.Letter.TheVariants.{Tell, Lines, Printed}
-use Rattle.letters.specs.Letters.{little, number_at, flag, head, head_bytes, carries, size, fits, in_bounds, letter_bytes, well_formed, tell_of, lines_of, printed_of, kept, told, letter_of, last, IsLetter}
+use Rattle.letters.specs.Letters.{little, number_at, flag, head, head_bytes, carries, size, fits, in_bounds, letter_bytes, well_formed, tell_of, lines_of, printed_of, kept, told, letter_of, last, part, IsLetter, no_letter, tag_byte}
 use Rattle.letters.proofs.Numbers.{value_below}
-use Rattle.letters.proofs.Fields.{found, beyond, rejoin, part_length}
+use Rattle.letters.specs.Back.{found, beyond}
+use Rattle.letters.proofs.Fields.{rejoin, part_length, part_bytes}
 use Rattle.letters.proofs.Writing.{length_head}
 
 -- The parts of what is well formed.
@@ -298,3 +302,41 @@ none_empty bs e l c i = some_head l (omega (arith, ap length i.bytes, length_let
     some_head (Tell from epoch earliest heard start finished count) z = omega arith
     some_head (Lines from first time process count) z = omega arith
     some_head (Printed from upto) z = omega arith
+
+-- None where the first byte is none of the tags.
+pub no_tag : (bs : List ℕ) (r : Option Letter) → r ≡ None → ((t : Tag) → get_or bs 0 0 ≢ tag_byte t) → r ≡ letter_of bs
+unfolding letter_of
+no_tag bs r e n =
+    e ∙ sym (
+    cond-false (eqb (get_or bs 0 0) 1) (told bs) _ (ne_eqb _ _ (n Tag.Tell))
+    ∙ cond-false (eqb (get_or bs 0 0) 2) (kept (length bs) (lines_of bs)) _ (ne_eqb _ _ (n Tag.Lines))
+    ∙ cond-false (eqb (get_or bs 0 0) 3) (kept (length bs) (printed_of bs)) _ (ne_eqb _ _ (n Tag.Printed)))
+
+pub no_byte : (bs : List ℕ) (r : Option Letter) → r ≡ None → length bs ≤ 0 → r ≡ letter_of bs
+no_byte [] r e h = no_tag [] r e zero_no_tag
+  where
+    zero_no_tag : (t : Tag) → 0 ≢ tag_byte t
+    zero_no_tag Tag.Tell p = omega arith
+    zero_no_tag Tag.Lines p = omega arith
+    zero_no_tag Tag.Printed p = omega arith
+no_byte (b ∷ bs) r e h = absurd (omega arith)
+
+-- What is read from a part of the bytes.
+module _ (bs : List ℕ) (from to : ℕ) (bytes : (i : ℕ) → get_or bs i 0 < 256) where
+  abbrev pub IsReadPart : Result Letter Refusal → Type 0
+  IsReadPart r = MatchResult r (λ l. (to ≤ length bs) × IsLetter (part bs from to) l (last (carries l) (part bs from to))) (λ f. (f ≡ no_letter) × (to ≤ length bs → (l : Letter) (c : List ℕ) → IsLetter (part bs from to) l c → ⊥))
+
+  read_got : (o : Option Letter) → o ≡ letter_of (part bs from to) → to ≤ length bs → IsReadPart (ok_or o no_letter)
+  read_got None e h = (refl, λ _ l c i. no_such _ e l c i)
+  read_got (Some l) e h = (h, read_so (part bs from to) (part_bytes bs from (to - from) bytes) l (sym e))
+
+  pub read_part : (g : Option (Bor (List ℕ))) (o : Option Letter) → IsGetRangeResult bs from to g → MatchOption g (o ≡ None) (λ x. o ≡ letter_of x.now) → IsReadPart (ok_or o no_letter)
+  read_part None o p m =
+      subst IsReadPart (ap (λ x. ok_or x no_letter) (sym m)) (
+        refl,
+        λ h l c i. elim p.0 [
+          | inl k ↦ (let z : to - from ≡ 0 = omega arith in none_empty _ (ap (λ n. length (take n (drop from bs))) z) l c i)
+          | inr k ↦ omega arith
+        ],
+      )
+  read_part (Some x) o p m = read_got o (m ∙ ap letter_of p.0.2) p.0.1

@@ -1,24 +1,16 @@
 -- Letters as they are written.
-use Rattle.std.proofs.Common.{◌≡◌, ℕ, ◌+◌, ◌-◌, ◌<◌, ◌≤◌, Bool, true, false, cond, ◌&&◌, leb, List, [], ◌∷◌, ◌++◌, length, take, drop, set, Some, None, sym, refl, ap, ◌∙◌, arith}
+use Rattle.std.proofs.Common.{◌≡◌, ℕ, ◌+◌, ◌-◌, ◌≤◌, Bool, true, false, cond, ◌&&◌, leb, List, [], ◌∷◌, ◌++◌, length, take, drop, set, Some, None, sym, refl, ap, ◌∙◌, arith}
 use mir.Val.{bool_byte}
 use borrow.Rule.Slice.PartMut.{put_mid}
-use Rattle.std.proofs.lemmas.List.{append_assoc, length-append, length-set, take_all}
+use Rattle.std.proofs.lemmas.List.{append_assoc, length-append, take_all}
 use Rattle.std.proofs.lemmas.Slice.{put_mid-paste}
 use Rattle.std.proofs.lemmas.Bool.{and_from, eq-eqb, le-leb, cond-true}
 use Rattle.letters.specs.declared.Letter.{Letter}
 use Rattle.letters.specs.declared.Letter.TheVariants.{Tell, Lines, Printed}
 use Rattle.letters.specs.Letters.{little, put, flag, head, head_bytes, carries, size, fits, in_bounds, letter_bytes, well_formed}
-use Rattle.letters.proofs.Numbers.{length_little, put_more, put_none, length_put, put_put}
+use Rattle.letters.specs.Back.{length_little}
+use Rattle.letters.proofs.Numbers.{put_more, put_none, length_put, put_put}
 use Rattle.letters.proofs.Fields.{Written, and_then}
-
-pub start_written : (o q : List ℕ) (at tag from : ℕ) (bs : List ℕ) → at + 1 < length o → q ≡ put (set (set o at tag) (at + 1) from) (at + 2) bs → q ≡ put o at (tag ∷ from ∷ bs)
-start_written o q at tag from bs h e =
-    let t : at + 2 ≡ at + 1 + 1 = omega arith in
-    let l : at + 1 < length (set o at tag) = simp length-set (omega arith) in
-    e
-    ∙ ap (λ n. put (set (set o at tag) (at + 1) from) n bs) t
-    ∙ put_more (set o at tag) (at + 1) from bs l
-    ∙ put_more o at tag (from ∷ bs) (omega arith)
 
 -- One byte more behind what was written.
 pub and_byte : {o p : List ℕ} {at k : ℕ} {xs : List ℕ} (b : ℕ) → Written o at k xs p → at + (k + 1) ≤ length o → Written o at (k + 1) (xs ++ (b ∷ [])) (set p (at + k) b)
@@ -31,11 +23,11 @@ flag_byte true = refl
 flag_byte false = refl
 
 -- The fields of a letter one behind another.
-pub tell_head : (from epoch earliest heard start : ℕ) (finished : Bool) (count : ℕ) → (((((1 ∷ from ∷ little epoch 8) ++ little earliest 8) ++ little heard 8) ++ little start 8) ++ (bool_byte finished ∷ [])) ++ (count ∷ []) ≡ head_bytes (Tell from epoch earliest heard start finished count)
+pub tell_head : (from epoch earliest heard start byte : ℕ) (finished : Bool) (count : ℕ) → byte ≡ flag finished → (((((1 ∷ from ∷ little epoch 8) ++ little earliest 8) ++ little heard 8) ++ little start 8) ++ (byte ∷ [])) ++ (count ∷ []) ≡ head_bytes (Tell from epoch earliest heard start finished count)
 unfolding head_bytes
-tell_head from epoch earliest heard start finished count =
+tell_head from epoch earliest heard start byte finished count e =
     let s = 1 ∷ from ∷ little epoch 8 in
-    ap (λ f. ((((s ++ little earliest 8) ++ little heard 8) ++ little start 8) ++ (f ∷ [])) ++ (count ∷ [])) (flag_byte finished) ∙ simp append_assoc
+    ap (λ f. ((((s ++ little earliest 8) ++ little heard 8) ++ little start 8) ++ (f ∷ [])) ++ (count ∷ [])) e ∙ simp append_assoc
 
 pub lines_head : (from first time process count : ℕ) → (((2 ∷ from ∷ little first 8) ++ little time 8) ++ little process 4) ++ (count ∷ []) ≡ head_bytes (Lines from first time process count)
 unfolding head_bytes

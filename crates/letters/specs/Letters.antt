@@ -4,6 +4,7 @@ use Rattle.meaning.specs.declared.Message.{Message}
 use Rattle.meaning.specs.declared.Line.{Line}
 use Rattle.checker.specs.declared.Refusal.{Refusal}
 use Rattle.checker.specs.declared.Rule.TheVariants as Rule
+use Rattle.letters.specs.declared.Tag.{Tag}
 use Rattle.letters.specs.declared.Letter.{Letter}
 use Rattle.letters.specs.declared.Letter.TheVariants.{Tell, Lines, Printed}
 
@@ -133,6 +134,12 @@ part bs from to = slice_range bs from to
 pub record IsLetter (bs : List ℕ) (l : Letter) (c : List ℕ) : Type 0 where
   pub bytes : bs ≡ letter_bytes l c
   pub formed : well_formed l c ≡ true
+
+-- The first byte of each kind of letter.
+abbrev pub tag_byte : Tag → ℕ
+tag_byte Tag.Tell = 1
+tag_byte Tag.Lines = 2
+tag_byte Tag.Printed = 3
 
 -- The refusal of bytes that are no letter.
 abbrev pub no_letter : Refusal

@@ -1,5 +1,5 @@
 -- What is promised of letters.
-use Rattle.std.specs.Prelude.{◌≡◌, ℕ, ◌<◌, ◌≤◌, true, List, length, Some}
+use Rattle.std.specs.Prelude.{◌≡◌, ℕ, ◌<◌, ◌≤◌, Bool, true, List, length, Some}
 use Rattle.std.specs.List.{AllByRecursion}
 use Rattle.meaning.specs.declared.Message.{Message}
 use Rattle.meaning.specs.declared.Line.{Line}
@@ -22,6 +22,10 @@ NoTwo =
 -- A letter has at most 1,024 bytes.
 abbrev pub AtMost : Type 0
 AtMost = (l : Letter) (c : List ℕ) → well_formed l c ≡ true → length (letter_bytes l c) ≤ 1024
+
+-- What fits its type has so many bytes, and is read back from them.
+abbrev pub IsReadBack : {X : Type 0} → ℕ → (X → List ℕ) → (List ℕ → X) → (X → Bool) → Type 0
+IsReadBack {X} size bytes_of of_bytes fits = (x : X) → fits x ≡ true → (length (bytes_of x) ≡ size) × (of_bytes (bytes_of x) ≡ x)
 
 -- A message has 28 bytes, and is read back from them.
 abbrev pub MessagesBack : Type 0

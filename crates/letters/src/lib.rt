@@ -1,15 +1,18 @@
 // What workers write to each other, in bytes; docs/LETTERS.md has every byte.
 #![tactic(auto)]
 
-ghost use Rattle.std.specs.Prelude.{◌≡◌, ℕ, ◌+◌, ◌^◌, ◌<◌, ◌≤◌, true, ◌&&◌, List, ◌∷◌, ◌++◌, length, take, drop, is_some, if◌then◌else◌, Some, None, MatchResult, nat_le};
+ghost use Rattle.std.specs.Prelude.{◌≡◌, ◌≢◌, ℕ, ◌+◌, ◌≤◌, true, ◌&&◌, List, ◌∷◌, ◌++◌, length, take, drop, is_some, if◌then◌else◌, Some, None, MatchResult, nat_le};
 ghost use Rattle.letters.specs.Promise.{ReadBack, ReadSo, NoTwo, AtMost, MessagesBack, LinesBack};
-ghost use Rattle.letters.specs.Letters.{little, number_at, put, message_bytes, message_of, line_bytes, line_of, size, carries, in_bounds, fits, head, head_bytes, letter_bytes, well_formed, kept, told, lines_of, printed_of, letter_of, last, part, IsLetter, no_letter};
+ghost use Rattle.letters.specs.Letters.{little, put, size, carries, in_bounds, fits, head, head_bytes, letter_bytes, well_formed, kept, told, lines_of, printed_of, letter_of, last, part, IsLetter, no_letter, tag_byte};
+
+mod wire;
 
 use checker::{Refusal, Rule};
 use meaning::{Line, Message};
+pub use wire::Wire;
 
 // A letter; the messages or lines that it carries stand as bytes behind it.
-#[derive(Clone, Copy)]
+#[derive(Clone, Copy, Debug, PartialEq, Eq)]
 pub enum Letter {
     // The sender's earliest time of an epoch; how long the reader's stream is as far as it was heard; a part of the sender's stream to the reader:
     // where it starts, whether the stream ends with it, and how many messages it has.
@@ -37,167 +40,155 @@ pub enum Letter {
     },
 }
 
-// How many of a letter's last bytes are what it carries.
-pub fn carried(letter: Letter) -> usize
-    ensures { result ≡ carries letter }
-{
-    match letter {
-        Letter::Tell { count, .. } => count as usize * 28,
-        Letter::Lines { count, .. } => count as usize * 16,
-        Letter::Printed { .. } => 0,
+// The first byte of each kind of letter.
+#[derive(Clone, Copy)]
+enum Tag {
+    Tell = 1,
+    Lines = 2,
+    Printed = 3,
+}
+
+impl From<Tag> for u8 {
+    ghost from_gives = { λ tag byte. byte ≡ tag_byte tag };
+
+    fn from(tag: Tag) -> u8 {
+        tag as u8
     }
 }
 
-// How many bytes a letter takes with what it carries.
-pub fn size_of(letter: Letter) -> usize
-    ensures { result ≡ size letter }
-{
-    match letter {
-        Letter::Tell { count, .. } => 36 + count as usize * 28,
-        Letter::Lines { count, .. } => 23 + count as usize * 16,
-        Letter::Printed { .. } => 10,
+impl TryFrom<u8> for Tag {
+    ghost use Rattle.letters.specs.declared.Tag.{Tag};
+
+    type Error = Refusal;
+
+    ghost try_from_gives = { λ byte r. MatchResult r (λ tag. byte ≡ tag_byte tag) (λ f. (f ≡ no_letter) × ((tag : Tag) → byte ≢ tag_byte tag)) };
+
+    fn try_from(byte: u8) -> Result<Tag, Refusal> {
+        match byte {
+            1 => Ok(Tag::Tell),
+            2 => Ok(Tag::Lines),
+            3 => Ok(Tag::Printed),
+            _ => Err(NO_LETTER),
+        }
     }
 }
 
-// Writes a number in so many bytes, the lowest first.
-fn write_number(out: &mut [u8], at: usize, n: u64, width: usize)
-    requires { at + width ≤ length out.old }
-    ensures { out.new ≡ put out.old at (little n width) }
-{
-    let mut left = n;
-    for k in at..at + width {
-        out[k] = (left % 256) as u8;
-        left /= 256;
+// How many bytes stand before what a letter carries, for each kind.
+const TELL_HEAD: usize = 36;
+
+const LINES_HEAD: usize = 23;
+
+const PRINTED_HEAD: usize = 10;
+
+// How many workers there are at most, and how many messages and lines a letter carries at most.
+const WORKERS: u8 = 64;
+
+const MESSAGES: u8 = 35;
+
+const LINES: u8 = 62;
+
+// The refusal of bytes that are no letter.
+const NO_LETTER: Refusal = Refusal {
+    rule: Rule::Letter,
+    place: 0,
+};
+
+impl Letter {
+    // How many of its last bytes are what it carries.
+    pub fn carried(self) -> usize
+        ensures { result ≡ carries self }
+    {
+        match self {
+            Letter::Tell { count, .. } => count as usize * Message::SIZE,
+            Letter::Lines { count, .. } => count as usize * Line::SIZE,
+            Letter::Printed { .. } => 0,
+        }
     }
-}
 
-// The number in so many bytes, the lowest first.
-fn read_number(bytes: &[u8], at: usize, width: usize) -> u64
-    requires inside { at + width ≤ length bytes.now }
-    requires short { width ≤ 8 }
-    ensures reads { result ≡ number_at bytes.now at width }
-    ensures below { result < 256 ^ width }
-{
-    let mut n: u64 = 0;
-    let mut k = width;
-    while k > 0 {
-        k -= 1;
-        let b = bytes[at + k];
-        n = n * 256 + b as u64;
+    // How many bytes stand before what it carries.
+    fn head(self) -> usize
+        ensures { result ≡ head self }
+    {
+        match self {
+            Letter::Tell { .. } => TELL_HEAD,
+            Letter::Lines { .. } => LINES_HEAD,
+            Letter::Printed { .. } => PRINTED_HEAD,
+        }
     }
-    n
-}
 
-// Writes a message in 28 bytes.
-pub fn write_message(out: &mut [u8], at: usize, m: Message)
-    requires { at + 28 ≤ length out.old }
-    ensures { out.new ≡ take at out.old ++ (message_bytes m ++ drop (at + 28) out.old) }
-{
-    write_number(out, at, m.time, 8);
-    write_number(out, at + 8, m.to as u64, 4);
-    write_number(out, at + 12, m.from as u64, 4);
-    write_number(out, at + 16, m.count, 8);
-    write_number(out, at + 24, m.number as u64, 4);
-}
-
-// The message that 28 bytes are.
-pub fn read_message(bytes: &[u8], at: usize) -> Message
-    requires { at + 28 ≤ length bytes.now }
-    ensures reads { result ≡ message_of (take 28 (drop at bytes.now)) }
-    ensures exact { message_bytes result ≡ take 28 (drop at bytes.now) }
-{
-    let part = &bytes[at..at + 28];
-    Message {
-        time: read_number(part, 0, 8),
-        to: read_number(part, 8, 4) as u32,
-        from: read_number(part, 12, 4) as u32,
-        count: read_number(part, 16, 8),
-        number: read_number(part, 24, 4) as u32,
+    // How many bytes it takes with what it carries.
+    pub fn size(self) -> usize
+        ensures { result ≡ size self }
+    {
+        self.head() + self.carried()
     }
-}
 
-// Writes a line in 16 bytes.
-pub fn write_line(out: &mut [u8], at: usize, line: Line)
-    requires { at + 16 ≤ length out.old }
-    ensures { out.new ≡ take at out.old ++ (line_bytes line ++ drop (at + 16) out.old) }
-{
-    write_number(out, at, line.time, 8);
-    write_number(out, at + 8, line.process as u64, 4);
-    write_number(out, at + 12, line.number as u64, 4);
-}
-
-// The line that 16 bytes are.
-pub fn read_line(bytes: &[u8], at: usize) -> Line
-    requires { at + 16 ≤ length bytes.now }
-    ensures reads { result ≡ line_of (take 16 (drop at bytes.now)) }
-    ensures exact { line_bytes result ≡ take 16 (drop at bytes.now) }
-{
-    let part = &bytes[at..at + 16];
-    Line {
-        time: read_number(part, 0, 8),
-        process: read_number(part, 8, 4) as u32,
-        number: read_number(part, 12, 4) as u32,
+    // Whether the sender and the count are in bounds.
+    fn is_in_bounds(self) -> bool
+        ensures answers { result ≡ in_bounds self }
+        ensures typed { fits self ≡ true }
+    {
+        match self {
+            Letter::Tell { from, count, .. } => from < WORKERS && count <= MESSAGES,
+            Letter::Lines { from, count, .. } => from < WORKERS && count <= LINES,
+            Letter::Printed { from, .. } => from < WORKERS,
+        }
     }
-}
 
-// Whether the sender and the count are in bounds.
-fn is_in_bounds(letter: Letter) -> bool
-    ensures answers { result ≡ in_bounds letter }
-    ensures typed { fits letter ≡ true }
-{
-    match letter {
-        Letter::Tell { from, count, .. } => from < 64 && count <= 35,
-        Letter::Lines { from, count, .. } => from < 64 && count <= 62,
-        Letter::Printed { from, .. } => from < 64,
+    // Writes it without what it carries.
+    fn write_head(self, out: &mut [u8], at: usize)
+        requires { at + head self ≤ length out.old }
+        ensures { out.new ≡ put out.old at (head_bytes self) }
+    {
+        match self {
+            Letter::Tell {
+                from,
+                epoch,
+                earliest,
+                heard,
+                start,
+                finished,
+                count,
+            } => {
+                write_start(out, at, Tag::Tell, from, epoch);
+                earliest.write(out, at + 10);
+                heard.write(out, at + 18);
+                start.write(out, at + 26);
+                out[at + 34] = u8::from(finished);
+                out[at + 35] = count;
+            }
+            Letter::Lines {
+                from,
+                first,
+                time,
+                process,
+                count,
+            } => {
+                write_start(out, at, Tag::Lines, from, first);
+                time.write(out, at + 10);
+                process.write(out, at + 18);
+                out[at + 22] = count;
+            }
+            Letter::Printed { from, upto } => write_start(out, at, Tag::Printed, from, upto),
+        }
+    }
+
+    // It, if it is in bounds and takes so many bytes.
+    fn keep(self, n: usize) -> Option<Letter>
+        ensures { result ≡ kept n self }
+    {
+        (self.is_in_bounds() && n == self.size()).then_some(self)
     }
 }
 
 // Writes what all letters begin with: the tag, the sender and a number.
-fn write_start(out: &mut [u8], at: usize, tag: u8, from: u8, n: u64)
+fn write_start(out: &mut [u8], at: usize, tag: Tag, from: u8, n: u64)
     requires { at + 10 ≤ length out.old }
-    ensures { out.new ≡ put out.old at (tag ∷ from ∷ little n 8) }
+    ensures { out.new ≡ put out.old at (tag_byte tag ∷ from ∷ little n 8) }
 {
-    out[at] = tag;
+    out[at] = u8::from(tag);
     out[at + 1] = from;
-    write_number(out, at + 2, n, 8);
-}
-
-// Writes a letter without what it carries.
-fn write_head(out: &mut [u8], at: usize, letter: Letter)
-    requires { at + head letter ≤ length out.old }
-    ensures { out.new ≡ put out.old at (head_bytes letter) }
-{
-    match letter {
-        Letter::Tell {
-            from,
-            epoch,
-            earliest,
-            heard,
-            start,
-            finished,
-            count,
-        } => {
-            write_start(out, at, 1, from, epoch);
-            write_number(out, at + 10, earliest, 8);
-            write_number(out, at + 18, heard, 8);
-            write_number(out, at + 26, start, 8);
-            out[at + 34] = finished as u8;
-            out[at + 35] = count;
-        }
-        Letter::Lines {
-            from,
-            first,
-            time,
-            process,
-            count,
-        } => {
-            write_start(out, at, 2, from, first);
-            write_number(out, at + 10, time, 8);
-            write_number(out, at + 18, process as u64, 4);
-            out[at + 22] = count;
-        }
-        Letter::Printed { from, upto } => write_start(out, at, 3, from, upto),
-    }
+    n.write(out, at + 2);
 }
 
 // Writes a letter with what it carries from a place on, and answers where it ends; refuses, with nothing changed, if it is not well formed or
@@ -206,92 +197,79 @@ pub fn write_letter(out: &mut [u8], at: usize, letter: Letter, carried: &[u8]) -
     ensures answers { result ≡ (if well_formed letter carried.now && nat_le (at + size letter) (length out.old) then Some (at + size letter) else None) }
     ensures writes { out.new ≡ (if is_some result then take at out.old ++ (letter_bytes letter carried.now ++ drop (at + size letter) out.old) else out.old) }
 {
-    let size = size_of(letter);
-    if !is_in_bounds(letter) || carried.len() != self::carried(letter) {
+    if !letter.is_in_bounds() || carried.len() != letter.carried() {
         return None;
     }
+    let size = letter.size();
     if at > out.len() || out.len() - at < size {
         return None;
     }
     let end = at + size;
-    write_head(out, at, letter);
+    letter.write_head(out, at);
     out[end - carried.len()..end].copy_from_slice(carried);
     Some(end)
-}
-
-// A letter, if it is in bounds and takes so many bytes.
-fn keep(letter: Letter, n: usize) -> Option<Letter>
-    ensures { result ≡ kept n letter }
-{
-    if is_in_bounds(letter) && n == size_of(letter) {
-        Some(letter)
-    } else {
-        None
-    }
 }
 
 // The letter that tells, if the bytes are one.
 fn read_tell(bytes: &[u8]) -> Option<Letter>
     ensures { result ≡ told bytes.now }
 {
-    if bytes.len() < 36 || bytes[34] >= 2 {
+    if bytes.len() < TELL_HEAD || bytes[34] >= 2 {
         return None;
     }
     let letter = Letter::Tell {
         from: bytes[1],
-        epoch: read_number(bytes, 2, 8),
-        earliest: read_number(bytes, 10, 8),
-        heard: read_number(bytes, 18, 8),
-        start: read_number(bytes, 26, 8),
+        epoch: u64::read(bytes, 2),
+        earliest: u64::read(bytes, 10),
+        heard: u64::read(bytes, 18),
+        start: u64::read(bytes, 26),
         finished: bytes[34] == 1,
         count: bytes[35],
     };
-    keep(letter, bytes.len())
+    letter.keep(bytes.len())
 }
 
 // The letter with lines, if the bytes are one.
 fn read_lines(bytes: &[u8]) -> Option<Letter>
     ensures { result ≡ kept (length bytes.now) (lines_of bytes.now) }
 {
-    if bytes.len() < 23 {
+    if bytes.len() < LINES_HEAD {
         return None;
     }
     let letter = Letter::Lines {
         from: bytes[1],
-        first: read_number(bytes, 2, 8),
-        time: read_number(bytes, 10, 8),
-        process: read_number(bytes, 18, 4) as u32,
+        first: u64::read(bytes, 2),
+        time: u64::read(bytes, 10),
+        process: u32::read(bytes, 18),
         count: bytes[22],
     };
-    keep(letter, bytes.len())
+    letter.keep(bytes.len())
 }
 
 // The letter that says what was printed, if the bytes are one.
 fn read_printed(bytes: &[u8]) -> Option<Letter>
     ensures { result ≡ kept (length bytes.now) (printed_of bytes.now) }
 {
-    if bytes.len() < 10 {
+    if bytes.len() < PRINTED_HEAD {
         return None;
     }
     let letter = Letter::Printed {
         from: bytes[1],
-        upto: read_number(bytes, 2, 8),
+        upto: u64::read(bytes, 2),
     };
-    keep(letter, bytes.len())
+    letter.keep(bytes.len())
 }
 
 // The letter that all the bytes are.
 fn read_whole(bytes: &[u8]) -> Option<Letter>
     ensures { result ≡ letter_of bytes.now }
 {
-    if bytes.len() == 0 {
-        return None;
-    }
-    match bytes[0] {
-        1 => read_tell(bytes),
-        2 => read_lines(bytes),
-        3 => read_printed(bytes),
-        _ => None,
+    let first = *bytes.first()?;
+    match Tag::try_from(first) {
+        Ok(Tag::Tell) => read_tell(bytes),
+        Ok(Tag::Lines) => read_lines(bytes),
+        Ok(Tag::Printed) => read_printed(bytes),
+        Err(_) => None,
     }
 }
 
@@ -299,19 +277,7 @@ fn read_whole(bytes: &[u8]) -> Option<Letter>
 pub fn read_letter(bytes: &[u8], from: usize, to: usize) -> Result<Letter, Refusal>
     ensures { MatchResult result (λ l. (to ≤ length bytes.now) × IsLetter (part bytes.now from to) l (last (carries l) (part bytes.now from to))) (λ f. (f ≡ no_letter) × (to ≤ length bytes.now → (l : Letter) (c : List ℕ) → IsLetter (part bytes.now from to) l c → ⊥)) }
 {
-    if from > to || to > bytes.len() {
-        return Err(Refusal {
-            rule: Rule::Letter,
-            place: 0,
-        });
-    }
-    match read_whole(&bytes[from..to]) {
-        Some(letter) => Ok(letter),
-        None => Err(Refusal {
-            rule: Rule::Letter,
-            place: 0,
-        }),
-    }
+    bytes.get(from..to).and_then(read_whole).ok_or(NO_LETTER)
 }
 
 // A letter is read back from its bytes.

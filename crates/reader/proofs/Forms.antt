@@ -1,37 +1,42 @@
 -- From where reading ends to what texts there are.
-use Rattle.std.proofs.Common.{◌≡◌, ℕ, suc, ◌+◌, ◌≤◌, List, [], ◌∷◌, ◌++◌, length, get_or, take, drop, sym, refl, ap, ◌∙◌, subst, append_assoc}
-use Rattle.std.proofs.lemmas.List.{drop_all, drop_more, take_more, take-append-drop, append_cancel_right}
+use Rattle.std.proofs.Common.{◌≡◌, ℕ, suc, ◌+◌, ◌-◌, ◌≤◌, List, [], ◌∷◌, ◌++◌, length, get_or, take, drop, sym, refl, ap, ◌∙◌, subst, append_assoc, arith}
+use Rattle.std.proofs.lemmas.List.{drop_at, drop_more, take_more, take_at, length-append}
 use Rattle.grammar.specs.Syntax.{Text, IsText}
 use Rattle.grammar.specs.Parse.{Got, got, bad, parse, read_kinds}
 use Rattle.grammar.proofs.Texts.{read_shown, stops_first}
-use Rattle.reader.specs.Places.{forget}
+use Rattle.reader.specs.Rests.{forget}
 use Rattle.reader.specs.Form.{StopsAt}
-use Rattle.reader.proofs.Blocks.{rest_is, never_bad, bad_is}
 
-parsed : (bs : List ℕ) (n : ℕ) (X : Got (Unit {0})) → n ≡ suc (length bs) → forget (read_kinds n (drop 0 bs)) ≡ X → forget (parse bs) ≡ X
+parsed : (bs : List ℕ) (n : ℕ) (X : Got (Unit {0})) → n ≡ length bs + 1 → forget (read_kinds n bs) ≡ X → forget (parse bs) ≡ X
 unfolding parse
-parsed bs n X e x = ap (λ m. forget (read_kinds m bs)) (sym e) ∙ x
+parsed bs n X e x = let s : suc (length bs) ≡ n = omega arith in ap (λ m. forget (read_kinds m bs)) s ∙ x
 
-whole : (bs k : List ℕ) (g : Got Text) → parse bs ≡ g → forget g ≡ got tt k → k ≡ [] → (t : Text) × IsText bs t
-whole bs k (got t r) p e z = (t, (read_shown bs t).0 (p ∙ ap (λ q. got t q) (rest_is tt tt r k e ∙ z)))
-whole bs k (bad r) p e z = absurd (never_bad tt k r (sym e))
+whole : (bs : List ℕ) (g : Got Text) → parse bs ≡ g → forget g ≡ got tt [] → (t : Text) × IsText bs t
+whole bs (got t r) p e = let z : r ≡ [] = cc in (t, (read_shown bs t).0 (p ∙ ap (λ q. got t q) z))
+whole bs (bad r) p e = absurd (let z : ◌≡◌ {A = ℕ} 0 1 = cc in omega arith)
 
-pub is_text : (bs : List ℕ) (n e : ℕ) → n ≡ suc (length bs) → forget (read_kinds n (drop 0 bs)) ≡ got tt (drop e bs) → length bs ≤ e → (t : Text) × IsText bs t
-is_text bs n e h x l = whole bs (drop e bs) (parse bs) refl (parsed bs n (got tt (drop e bs)) h x) (drop_all e bs l)
+pub is_text : (bs : List ℕ) (n : ℕ) → n ≡ length bs + 1 → forget (read_kinds n bs) ≡ got tt [] → (t : Text) × IsText bs t
+is_text bs n h x = whole bs (parse bs) refl (parsed bs n (got tt []) h x)
 
 stops : (bs k : List ℕ) (g : Got Text) → parse bs ≡ g → forget g ≡ bad k → parse bs ≡ bad k
-stops bs k (got t r) p e = absurd (never_bad tt r k e)
-stops bs k (bad r) p e = p ∙ ap (λ q. bad q) (bad_is r k e)
+stops bs k (got t r) p e = absurd (let z : ◌≡◌ {A = ℕ} 0 1 = cc in omega arith)
+stops bs k (bad r) p e = let z : r ≡ k = cc in p ∙ ap (λ q. bad q) z
 
-pub stops_at : (bs : List ℕ) (n p : ℕ) → n ≡ suc (length bs) → forget (read_kinds n (drop 0 bs)) ≡ bad (drop p bs) → p ≤ length bs → StopsAt bs p
-stops_at bs n p h x l =
-    let s = stops_first bs (drop p bs) (stops bs (drop p bs) (parse bs) refl (parsed bs n (bad (drop p bs)) h x)) in
-    let f : s.0 ≡ take p bs = append_cancel_right s.0 (take p bs) (drop p bs) (sym s.1 ∙ sym (take-append-drop p bs)) in
-    record {
-      inside = l;
-      goes_on = (s.2.0, s.2.1, subst (λ q. IsText (q ++ s.2.0) s.2.1) f s.2.2);
-      no_further = λ k more t i.
-          s.3 (get_or bs p 0) (drop (p + 1) bs) more t (drop_more bs p 0 k)
-          (subst (λ q. IsText q t) (ap (λ q. q ++ more) (take_more bs p 0 k) ∙ append_assoc (take p bs) (get_or bs p 0 ∷ []) more ∙ ap (λ q. q ++ get_or bs p 0 ∷ more) (sym f)) i);
-      no_text = s.4;
-    }
+-- The bad bytes are the last ones, so that their number is that of their place from the end.
+pub stops_at : (bs r : List ℕ) (n : ℕ) → n ≡ length bs + 1 → forget (read_kinds n bs) ≡ bad r → (length r ≤ length bs) × StopsAt bs (length bs - length r)
+stops_at bs r n h x =
+    let s = stops_first bs r (stops bs r (parse bs) refl (parsed bs n (bad r) h x)) in
+    let l : length bs ≡ length s.0 + length r = ap length s.1 ∙ length-append s.0 r in
+    let p : length s.0 ≡ length bs - length r = omega arith in
+    let d : drop (length bs - length r) bs ≡ r = ap (drop (length bs - length r)) s.1 ∙ drop_at s.0 r (length bs - length r) p in
+    let f : s.0 ≡ take (length bs - length r) bs = sym (ap (take (length bs - length r)) s.1 ∙ take_at s.0 r (length bs - length r) p) in (
+      omega arith,
+      record {
+        inside = omega arith;
+        goes_on = (s.2.0, s.2.1, subst (λ q. IsText (q ++ s.2.0) s.2.1) f s.2.2);
+        no_further = λ k more t i.
+            s.3 (get_or bs (length bs - length r) 0) (drop (length bs - length r + 1) bs) more t (sym d ∙ drop_more bs (length bs - length r) 0 k)
+            (subst (λ q. IsText q t) (ap (λ q. q ++ more) (take_more bs (length bs - length r) 0 k) ∙ append_assoc (take (length bs - length r) bs) (get_or bs (length bs - length r) 0 ∷ []) more ∙ ap (λ q. q ++ get_or bs (length bs - length r) 0 ∷ more) (sym f)) i);
+        no_text = s.4;
+      },
+    )

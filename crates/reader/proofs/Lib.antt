@@ -1,8 +1,4 @@
-pub mod Spans
-pub mod Packs
-pub mod Terms
-pub mod Puts
-pub mod Blocks
-pub mod Rows
-pub mod Wholes
-pub mod Forms
+mod Ends
+mod Lines
+mod Items
+mod Forms

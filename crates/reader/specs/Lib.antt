@@ -1,3 +1,2 @@
-pub mod Places
-pub mod Words
+pub mod Rests
 pub mod Form

@@ -1,5 +1,5 @@
-use Rattle.letters.proofs.Fields.{line_back, line_long}
+use Rattle.letters.specs.Back.{line_back}
 use Rattle.letters.proofs.lines_back.Goals as goal
 
 pub returns : goal.returns
-returns c = λ l h. (line_long l, line_back l h)
+returns c = line_back

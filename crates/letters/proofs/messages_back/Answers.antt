@@ -1,5 +1,5 @@
-use Rattle.letters.proofs.Fields.{message_back, message_long}
+use Rattle.letters.specs.Back.{message_back}
 use Rattle.letters.proofs.messages_back.Goals as goal
 
 pub returns : goal.returns
-returns c = λ m h. (message_long m, message_back m h)
+returns c = message_back

@@ -9,11 +9,11 @@ returns c =
     let at = c.args.at in
     let l = c.args.letter in
     let d = c.args.carried.now in
-    let n = c.size_of-size.result in
+    let n = c.size-size.result in
     let k : length d ≡ carries l = omega (arith, c.carried.ensures, c.if-carried.false) in
     let h : at + n ≤ length o = omega (arith, c.if-at-out.false, c.if-out-at.false) in
     let b : in_bounds l ≡ true = sym c.is_in_bounds.ensures.answers ∙ c.if-not-is_in_bounds.false in
     record {
-      answers = answered o at l d n c.is_in_bounds.ensures.typed b k c.size_of-size.ensures h;
-      writes = letter_written o c.write_head.new.out c.copy_from_slice.new.self at l d n c.size_of-size.ensures k h c.write_head.ensures c.copy_from_slice.ensures.after;
+      answers = answered o at l d n c.is_in_bounds.ensures.typed b k c.size-size.ensures h;
+      writes = letter_written o c.write_head.new.out c.copy_from_slice.new.self at l d n c.size-size.ensures k h c.write_head.ensures c.copy_from_slice.ensures.after;
     }

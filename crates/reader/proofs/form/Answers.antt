@@ -1,16 +1,12 @@
-use Rattle.std.proofs.Common.{◌+◌, length, arith}
-use Rattle.std.proofs.lemmas.Result.{err_from_is_err_and}
+use Rattle.std.proofs.Common.{◌+◌, length, refl}
 use Rattle.reader.proofs.Forms.{is_text, stops_at}
 use Rattle.reader.proofs.form.Goals as goal
 
-pub returns : goal.returns
-returns c =
-    is_text c.args.bytes.now (length c.args.bytes.now + 1) c.in_ok-read_kinds.field-0 (omega arith)
-    c.in_ok-read_kinds.ensures.answers c.in_ok-read_kinds.ensures.whole
+pub returns-in-Ok : goal.returns-in-Ok
+returns-in-Ok c = is_text c.args.bytes.now (length c.args.bytes.now + 1) refl c.in-Ok.ensures
 
-pub returns-in_err-read_kinds : goal.returns-in_err-read_kinds
-returns-in_err-read_kinds c =
-    let p = err_from_is_err_and c.from_residual.result c.from_residual.ensures.1 in
-    rw (p.1, p.2)
-    (stops_at c.args.bytes.now (length c.args.bytes.now + 1) c.in_err-read_kinds.field-0.0 (omega arith)
-    c.in_err-read_kinds.ensures.answers c.in_err-read_kinds.ensures.inside)
+pub overflow_sub-result : goal.overflow_sub-result
+overflow_sub-result c = (stops_at c.args.bytes.now c.in-Err.rest.now (length c.args.bytes.now + 1) refl c.in-Err.ensures).0
+
+pub returns-in-Err : goal.returns-in-Err
+returns-in-Err c = (stops_at c.args.bytes.now c.in-Err.rest.now (length c.args.bytes.now + 1) refl c.in-Err.ensures).1

@@ -1,29 +1,22 @@
-use Rattle.std.proofs.Common.{◌-◌, drop, sym, refl, ◌∙◌, arith}
-use Rattle.std.proofs.lemmas.Result.{err_from_is_err_and}
+use Rattle.std.proofs.Common.{◌≡◌, ◌+◌, ◌-◌, ◌∙◌, sym, arith, rules}
 use Rattle.grammar.specs.Parse.{read_notes}
-use Rattle.reader.specs.Places.{forget}
-use Rattle.reader.proofs.Wholes.{notes_zero, notes_done, notes_first_bad, notes_item_bad, notes_item_more}
+use Rattle.reader.specs.Rests.{forget}
+use Rattle.reader.proofs.Items.{notes_more, notes_none, notes_done}
 use Rattle.reader.proofs.read_notes.Goals as goal
 
-pub returns-then-end-bytes : goal.returns-then-end-bytes
-returns-then-end-bytes c = record { answers = sym c.loop-left.invariant.0 ∙ notes_done c.loop-left.left c.args.bytes.now c.loop-left.end (λ z. omega (arith, z, c.loop-left-test.true)) c.if-end-bytes.true; inside = c.loop-left.invariant.1; whole = c.if-end-bytes.true }
+pub returns-then-is_empty : goal.returns-then-is_empty
+returns-then-is_empty c = sym c.loop.invariant ∙ notes_done (c.args.most - c.loop.counter) (c.args.most - (c.loop.counter + 1)) c.loop.rest.now (omega arith) c.if-is_empty.ensures
 
-pub returns-in_err-first : goal.returns-in_err-first
-returns-in_err-first c =
-    let p = err_from_is_err_and c.from_residual.result c.from_residual.ensures.1 in
-    rw (p.1, p.2) (record { answers = sym c.loop-left.invariant.0 ∙ notes_first_bad c.loop-left.left c.args.bytes.now c.loop-left.end (λ z. omega (arith, z, c.loop-left-test.true)) c.if-end-bytes.false _ c.in_err-first.ensures.answers; inside = c.in_err-first.ensures.inside; whole = tt })
+pub returns-in_err-read_literal : goal.returns-in_err-read_literal
+returns-in_err-read_literal c = sym c.loop.invariant ∙ rw (notes_more (c.args.most - c.loop.counter) (c.args.most - (c.loop.counter + 1)) c.loop.rest.now (omega arith) c.if-is_empty.ensures) (search rules)
 
-pub returns-in_err-end : goal.returns-in_err-end
-returns-in_err-end c =
-    let p = err_from_is_err_and c.from_residual-in_err-end.result c.from_residual-in_err-end.ensures.1 in
-    rw (p.1, p.2) (record { answers = sym c.loop-left.invariant.0 ∙ notes_item_bad c.loop-left.left c.args.bytes.now c.loop-left.end (λ z. omega (arith, z, c.loop-left-test.true)) c.if-end-bytes.false (drop c.in_ok-first.first c.args.bytes.now) _ c.in_ok-first.ensures.answers c.in_err-end.ensures.answers; inside = c.in_err-end.ensures.inside; whole = tt })
+pub returns-in_err-rest : goal.returns-in_err-rest
+returns-in_err-rest c = sym c.loop.invariant ∙ rw (notes_more (c.args.most - c.loop.counter) (c.args.most - (c.loop.counter + 1)) c.loop.rest.now (omega arith) c.if-is_empty.ensures) (search rules)
 
-pub loop-left-preserved : goal.loop-left-preserved
-loop-left-preserved c = (
-  sym (notes_item_more c.loop-left.left c.args.bytes.now c.loop-left.end (λ z. omega (arith, z, c.loop-left-test.true)) c.if-end-bytes.false (drop c.in_ok-first.first c.args.bytes.now) (drop c.in_ok-end.end c.args.bytes.now) (forget (read_notes (c.loop-left.left - 1) (drop c.in_ok-end.end c.args.bytes.now))) c.in_ok-first.ensures.answers c.in_ok-end.ensures.answers refl)
-      ∙ c.loop-left.invariant.0,
-  c.in_ok-end.ensures.inside,
-)
+pub loop-preserved : goal.loop-preserved
+loop-preserved c =
+    let s : forget (read_notes (c.args.most - c.loop.counter) c.loop.rest.now) ≡ forget (read_notes (c.args.most - (c.loop.counter + 1)) c.in_ok-rest.rest.now) = rw (notes_more (c.args.most - c.loop.counter) (c.args.most - (c.loop.counter + 1)) c.loop.rest.now (omega arith) c.if-is_empty.ensures) (search rules) in
+    sym s ∙ c.loop.invariant
 
 pub returns : goal.returns
-returns c = record { answers = sym c.loop-left.invariant.0 ∙ notes_zero c.loop-left.left (drop c.loop-left.end c.args.bytes.now) (omega (arith, c.loop-left-test.false)); inside = c.loop-left.invariant.1; whole = tt }
+returns c = sym c.loop.invariant ∙ notes_none (c.args.most - c.loop.counter) c.loop.rest.now (omega arith)

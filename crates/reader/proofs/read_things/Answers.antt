@@ -1,37 +1,25 @@
-use Rattle.std.proofs.Common.{◌-◌, drop, sym, refl, ◌∙◌, arith}
-use Rattle.std.proofs.lemmas.Result.{err_from_is_err_and}
+use Rattle.std.proofs.Common.{◌≡◌, ◌+◌, ◌-◌, ◌∙◌, sym, arith, rules}
 use Rattle.grammar.specs.Parse.{read_things}
-use Rattle.reader.specs.Places.{forget, at_place}
-use Rattle.reader.proofs.Wholes.{things_zero, things_done, things_first_bad, things_item_bad, things_item_more, things_over}
+use Rattle.reader.specs.Rests.{forget}
+use Rattle.reader.proofs.Items.{things_more, things_none, things_done, things_over}
 use Rattle.reader.proofs.read_things.Goals as goal
 
-pub returns-then-end-bytes : goal.returns-then-end-bytes
-returns-then-end-bytes c = record { answers = sym c.loop-left.invariant.0 ∙ things_done c.loop-left.left c.args.bytes.now c.loop-left.end (λ z. omega (arith, z, c.loop-left-test.true)) c.if-end-bytes.true; inside = c.loop-left.invariant.1; whole = c.if-end-bytes.true }
+pub returns-then-is_empty : goal.returns-then-is_empty
+returns-then-is_empty c = sym c.loop-i.invariant ∙ things_done (c.args.most - c.loop-i.i) (c.args.most - (c.loop-i.i + 1)) c.loop-i.rest.now (omega arith) c.if-is_empty.ensures
 
-pub returns-then-bytes-end-ne116 : goal.returns-then-bytes-end-ne116
-returns-then-bytes-end-ne116 c =
-    record {
-      answers = sym c.loop-left.invariant.0 ∙ things_over c.loop-left.left c.args.bytes.now c.loop-left.end (at_place c.args.bytes.now c.read_notes.result) (λ z. omega (arith, z, c.loop-left-test.true)) c.if-end-bytes.false c.if-bytes-end-ne116.true c.read_notes.ensures.answers;
-      inside = c.read_notes.ensures.inside;
-      whole = c.read_notes.ensures.whole;
-    }
+pub returns-then-rest-ne116 : goal.returns-then-rest-ne116
+returns-then-rest-ne116 c = sym c.loop-i.invariant ∙ things_over (c.args.most - c.loop-i.i) (c.args.most - (c.loop-i.i + 1)) c.loop-i.rest.now (omega arith) c.if-is_empty.ensures c.if-rest-ne116.true ∙ c.read_notes.ensures
 
-pub returns-in_err-first : goal.returns-in_err-first
-returns-in_err-first c =
-    let p = err_from_is_err_and c.from_residual.result c.from_residual.ensures.1 in
-    rw (p.1, p.2) (record { answers = sym c.loop-left.invariant.0 ∙ things_first_bad c.loop-left.left c.args.bytes.now c.loop-left.end (λ z. omega (arith, z, c.loop-left-test.true)) c.if-end-bytes.false c.if-bytes-end-ne116.false _ c.in_err-first.ensures.answers; inside = c.in_err-first.ensures.inside; whole = tt })
+pub returns-in_err-read_literal : goal.returns-in_err-read_literal
+returns-in_err-read_literal c = sym c.loop-i.invariant ∙ rw (things_more (c.args.most - c.loop-i.i) (c.args.most - (c.loop-i.i + 1)) c.loop-i.rest.now (omega arith) c.if-is_empty.ensures c.if-rest-ne116.false) (search rules)
 
-pub returns-in_err-end : goal.returns-in_err-end
-returns-in_err-end c =
-    let p = err_from_is_err_and c.from_residual-in_err-end.result c.from_residual-in_err-end.ensures.1 in
-    rw (p.1, p.2) (record { answers = sym c.loop-left.invariant.0 ∙ things_item_bad c.loop-left.left c.args.bytes.now c.loop-left.end (λ z. omega (arith, z, c.loop-left-test.true)) c.if-end-bytes.false c.if-bytes-end-ne116.false (drop c.in_ok-first.first c.args.bytes.now) _ c.in_ok-first.ensures.answers c.in_err-end.ensures.answers; inside = c.in_err-end.ensures.inside; whole = tt })
+pub returns-in_err-rest : goal.returns-in_err-rest
+returns-in_err-rest c = sym c.loop-i.invariant ∙ rw (things_more (c.args.most - c.loop-i.i) (c.args.most - (c.loop-i.i + 1)) c.loop-i.rest.now (omega arith) c.if-is_empty.ensures c.if-rest-ne116.false) (search rules)
 
-pub loop-left-preserved : goal.loop-left-preserved
-loop-left-preserved c = (
-  sym (things_item_more c.loop-left.left c.args.bytes.now c.loop-left.end (λ z. omega (arith, z, c.loop-left-test.true)) c.if-end-bytes.false c.if-bytes-end-ne116.false (drop c.in_ok-first.first c.args.bytes.now) (drop c.in_ok-end.end c.args.bytes.now) (forget (read_things (c.loop-left.left - 1) (drop c.in_ok-end.end c.args.bytes.now))) c.in_ok-first.ensures.answers c.in_ok-end.ensures.answers refl)
-      ∙ c.loop-left.invariant.0,
-  c.in_ok-end.ensures.inside,
-)
+pub loop-i-preserved : goal.loop-i-preserved
+loop-i-preserved c =
+    let s : forget (read_things (c.args.most - c.loop-i.i) c.loop-i.rest.now) ≡ forget (read_things (c.args.most - (c.loop-i.i + 1)) c.in_ok-rest.rest.now) = rw (things_more (c.args.most - c.loop-i.i) (c.args.most - (c.loop-i.i + 1)) c.loop-i.rest.now (omega arith) c.if-is_empty.ensures c.if-rest-ne116.false) (search rules) in
+    sym s ∙ c.loop-i.invariant
 
 pub returns : goal.returns
-returns c = record { answers = sym c.loop-left.invariant.0 ∙ things_zero c.loop-left.left (drop c.loop-left.end c.args.bytes.now) (omega (arith, c.loop-left-test.false)); inside = c.loop-left.invariant.1; whole = tt }
+returns c = sym c.loop-i.invariant ∙ things_none (c.args.most - c.loop-i.i) c.loop-i.rest.now (omega arith)

@@ -1,10 +1,7 @@
-use Rattle.std.proofs.Common.{◌≡◌, ◌≤◌, length, drop}
+use Rattle.std.proofs.Common.{◌≡◌, ◌-◌}
 use Rattle.grammar.specs.Parse.{read_things}
-use Rattle.reader.specs.Places.{forget}
+use Rattle.reader.specs.Rests.{forget}
 use Rattle.reader.proofs.read_things.Given as goal
 
-abbrev pub invariant-loop-left : goal.invariant-loop-left
-invariant-loop-left l = (forget (read_things l.left (drop l.end l.bytes)) ≡ forget (read_things l.most (drop l.at l.bytes))) × (l.end ≤ length l.bytes)
-
-abbrev pub decreases-loop-left : goal.decreases-loop-left
-decreases-loop-left l = l.left
+abbrev pub invariant-loop-i : goal.invariant-loop-i
+invariant-loop-i l = forget (read_things (l.most - l.i) l.rest) ≡ forget (read_things l.most l.text)
