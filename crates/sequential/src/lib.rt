@@ -18,7 +18,7 @@ const PROCESSES: usize = 65536;
 const WIDTH: usize = 64;
 
 // How far a run has come: how many messages wait in the row, and how many lines were said.
-#[derive(Clone, Copy)]
+#[derive(Clone, Copy, Debug, Default, PartialEq, Eq)]
 #[repr(C)]
 pub struct Progress {
     pub waiting: usize,
@@ -46,7 +46,7 @@ pub enum Unready {
 }
 
 // How a run ended, and after how many steps.
-#[derive(Clone, Copy)]
+#[derive(Clone, Copy, Debug, PartialEq, Eq)]
 pub struct Report {
     pub outcome: Outcome,
     pub steps: u64,
