@@ -1,5 +1,5 @@
 -- What is written of lines, by how the first opens.
-use Rattle.std.proofs.Common.{◌≡◌, ℕ, zero, suc, ◌-◌, ◌<◌, ◌≤◌, true, false, eqb, ◌⊎◌, List, [], ◌∷◌, ◌++◌, map, length, get_or, drop, codes, sym, refl, ap, ◌∙◌, subst, inl, inr, sub-one, arith}
+use Rattle.std.proofs.Common.{◌≡◌, ℕ, zero, suc, ◌-◌, ◌<◌, true, false, eqb, ◌⊎◌, List, [], ◌∷◌, ◌++◌, map, length, get_or, drop, codes, sym, refl, ap, ◌∙◌, subst, inl, inr, sub-one, arith}
 use Rattle.std.proofs.lemmas.Bool.{both_ways}
 use Rattle.body.specs.declared.Act.TheVariants.{Assign, Draw, Say, Send}
 use Rattle.body.specs.declared.LineOp.{LineOp}

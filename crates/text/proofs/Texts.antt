@@ -2,8 +2,8 @@
 use Rattle.std.proofs.Common.{◌≡◌, ℕ, zero, suc, ◌+◌, ◌*◌, ◌<◌, ◌≤◌, min, Bool, true, false, not, cond, eqb, ltb, List, [], ◌∷◌, ◌++◌, map, length, get_or, take, drop, Some, None, codes, one-add, sym, refl, ap, ◌∙◌, arith}
 use Rattle.std.specs.List.{position, position_or_len}
 use Rattle.std.proofs.lemmas.Bool.Decides.{nat_tests}
-use Rattle.std.proofs.lemmas.List.{append-nil, append_assoc, drop_more, drop_all, take_all, map_more, get_or-drop}
-use Rattle.std.proofs.lemmas.Bool.{cond-true, cond-false, cond_below, le-ltb, eq-eqb, ne_eqb}
+use Rattle.std.proofs.lemmas.List.{append_assoc, drop_more, drop_all, take_all, get_or-drop}
+use Rattle.std.proofs.lemmas.Bool.{cond-false, cond_below, le-ltb}
 use Rattle.body.specs.declared.Process.{Process}
 use Rattle.meaning.specs.declared.Message.{Message}
 use Rattle.sequential.specs.Memory.{body_from}
@@ -15,12 +15,13 @@ use Rattle.text.specs.Written.{held_kind, kind_name, thing_of, kinds_bytes, thin
 use Rattle.text.proofs.Words.{unpack_zero}
 
 -- Each after a space.
-pub row_more : (f : ℕ → List ℕ) (xs : List ℕ) (i : ℕ) → i < length xs →
-    show_row (map f (drop i xs)) ≡ (codes " " ++ f (get_or xs i 0)) ++ show_row (map f (drop (i + 1) xs))
+pub row_more : {X : Type 0} (f : X → List ℕ) (xs : List X) (i : ℕ) (x : X) → i < length xs → x ≡ get_or xs i x →
+    show_row (map f (drop i xs)) ≡ (codes " " ++ f x) ++ show_row (map f (drop (i + 1) xs))
 unfolding show_row
-row_more f xs i h = ap (λ ys. show_row (map f ys)) (drop_more xs i 0 h)
+row_more f xs i x h e =
+    ap (λ ys. show_row (map f ys)) (drop_more xs i x h) ∙ ap (λ y. (codes " " ++ f y) ++ show_row (map f (drop (i + 1) xs))) (sym e)
 
-pub row_none : (f : ℕ → List ℕ) (xs : List ℕ) (i : ℕ) → length xs ≤ i → show_row (map f (drop i xs)) ≡ []
+pub row_none : {X : Type 0} (f : X → List ℕ) (xs : List X) (i : ℕ) → length xs ≤ i → show_row (map f (drop i xs)) ≡ []
 unfolding show_row
 row_none f xs i h = ap (λ ys. show_row (map f ys)) (drop_all i xs h)
 

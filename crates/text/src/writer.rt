@@ -1,5 +1,5 @@
 // The text of what lent slices hold, written into lent bytes.
-ghost use Rattle.std.specs.Prelude.{◌≡◌, ◌∷◌, [], ◌==◌, map, position, take, slice_index};
+ghost use Rattle.std.specs.Prelude.{◌≡◌, ℕ, List, ◌∷◌, [], ◌==◌, map, position, take, slice_index};
 ghost use Rattle.checker.specs.Words.{unpack};
 ghost use Rattle.text.specs.Named.{digits, digits_upto, kind_text, note_text};
 ghost use Rattle.text.specs.Written.{Writes, Wrote, Opened, WritesText, Written, sign_of, else_head, lines_bytes, held_kind, kind_name, thing_of, kinds_bytes, things_bytes, notes_bytes, text_bytes};
@@ -30,6 +30,30 @@ struct Out<'a> {
     bytes: &'a mut [u8],
     end: usize,
     limit: usize,
+}
+
+// What stands in a row of a text: a number, or a packed name.
+trait Entry: Copy {
+    ghost bytes: { Self → List ℕ };
+
+    fn write(self, out: &mut Out<'_>) -> Option<()>
+        ensures { Writes (bytes self) out.old out.new result };
+}
+
+impl Entry for u32 {
+    ghost bytes = { digits };
+
+    fn write(self, out: &mut Out<'_>) -> Option<()> {
+        out.write_number(self as u64)
+    }
+}
+
+impl Entry for u64 {
+    ghost bytes = { unpack };
+
+    fn write(self, out: &mut Out<'_>) -> Option<()> {
+        out.write_name(self)
+    }
 }
 
 // The word at k, or 0 where there is none.
@@ -223,7 +247,13 @@ impl Out<'_> {
     }
 
     // A line with no lines in it. Gives the code behind it.
-    fn write_act<'b>(&mut self, act: Act, code: &'b [u32], fuel: usize, names: &[u64]) -> Option<&'b [u32]>
+    fn write_act<'b>(
+        &mut self,
+        act: Act,
+        code: &'b [u32],
+        fuel: usize,
+        names: &[u64],
+    ) -> Option<&'b [u32]>
         ensures { Opened names.now (Do act) fuel code.now self.old self.new result }
     {
         match act {
@@ -333,24 +363,13 @@ impl Out<'_> {
         Some(())
     }
 
-    // Numbers, each after a space.
-    fn write_numbers(&mut self, numbers: &[u32]) -> Option<()>
-        ensures { Writes (show_row (map digits numbers.now)) self.old self.new result }
+    // Entries, each after a space.
+    fn write_row<T: Entry>(&mut self, row: &[T]) -> Option<()>
+        ensures { Writes (show_row (map T.bytes row.now)) self.old self.new result }
     {
-        for n in numbers {
+        for entry in row {
             self.put(b' ')?;
-            self.write_number(*n as u64)?;
-        }
-        Some(())
-    }
-
-    // Names, each after a space.
-    fn write_names(&mut self, names: &[u64]) -> Option<()>
-        ensures { Writes (show_row (map unpack names.now)) self.old self.new result }
-    {
-        for name in names {
-            self.put(b' ')?;
-            self.write_name(*name)?;
+            entry.write(self)?;
         }
         Some(())
     }
@@ -361,7 +380,7 @@ impl Out<'_> {
     {
         self.write_all(b"thing ")?;
         self.write_name(name)?;
-        self.write_numbers(numbers)?;
+        self.write_row(numbers)?;
         self.put(b'\n')
     }
 
@@ -387,7 +406,7 @@ impl Out<'_> {
         let own = skip(code, start as usize);
         self.write_all(b"kind ")?;
         self.write_name(name_at(names, 0))?;
-        self.write_names(numbers)?;
+        self.write_row(numbers)?;
         self.put(b'\n')?;
         self.write_lines(own, own.len(), numbers)?;
         self.write_all(b"end\n")
@@ -420,7 +439,11 @@ fn kind_name(kinds: &[u32], names: &[u64], k: u32) -> u64
 fn write_text(model: Model<'_>, bytes: &mut [u8], limit: usize) -> Option<usize>
     ensures { WritesText (text_bytes model.entry.code.now model.entry.kinds.now model.entry.names.now model.entry.processes.now model.entry.vars.now model.entry.messages.now) limit bytes.old bytes.new result }
 {
-    let mut out = Out { bytes, end: 0, limit };
+    let mut out = Out {
+        bytes,
+        end: 0,
+        limit,
+    };
     out.write_kinds(model)?;
     out.write_things(model)?;
     out.write_notes(model.messages)?;

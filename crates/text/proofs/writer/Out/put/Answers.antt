@@ -8,7 +8,7 @@ pub returns : goal.returns
 returns c =
     let o = c.args.self.now in
     elim c.if-self-2.branch [
-      then-self-2 w ↦ spilled_one o _ c.args.b (ap (λ x. x.bytes.ghost_name) w.self-is) (ap (λ x. x.bytes.now) w.self-is) (ap (λ x. x.limit) w.self-is) (ap (λ x. x.end + 1) w.self-is) c.if-self.false
-    | else-self-2 w ↦ spilled_one o _ c.args.b (ap (λ x. x.bytes.ghost_name) w.self-is)
+      | then-self-2 w ↦ spilled_one o _ c.args.b (ap (λ x. x.bytes.ghost_name) w.self-is) (ap (λ x. x.bytes.now) w.self-is) (ap (λ x. x.limit) w.self-is) (ap (λ x. x.end + 1) w.self-is) c.if-self.false
+      | else-self-2 w ↦ spilled_one o _ c.args.b (ap (λ x. x.bytes.ghost_name) w.self-is)
           (ap (λ x. x.bytes.now) w.self-is ∙ sym (set_past o.bytes.now o.end c.args.b w.if-self-2.false)) (ap (λ x. x.limit) w.self-is) (ap (λ x. x.end + 1) w.self-is) c.if-self.false
     ]

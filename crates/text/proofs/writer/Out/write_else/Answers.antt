@@ -1,4 +1,4 @@
-use Rattle.std.proofs.Common.{[], sym, refl, ap, inl, inr, arith}
+use Rattle.std.proofs.Common.{[], sym, ap, inl, inr, arith}
 use Rattle.std.proofs.lemmas.Bool.{eqb-true}
 use Rattle.text.specs.Written.{else_head}
 use Rattle.text.proofs.Lines.{front_of, no_body, is_stop, else_some}

@@ -13,12 +13,12 @@ unfolding show_things
 returns-in_err-write_name c =
     lost _ c.from_residual-in_err-write_name.ensures (ahead_passed (ahead_more (ahead_all refl) refl c.in_ok-write_all.ensures) _ refl c.in_err-write_name.ensures)
 
-pub returns-in_err-write_numbers : goal.returns-in_err-write_numbers
+pub returns-in_err-write_row : goal.returns-in_err-write_row
 unfolding show_things
-returns-in_err-write_numbers c =
-    lost _ c.from_residual-in_err-write_numbers.ensures (ahead_passed (ahead_more (ahead_more (ahead_all refl) refl c.in_ok-write_all.ensures) refl c.in_ok-write_name.ensures) _ refl c.in_err-write_numbers.ensures)
+returns-in_err-write_row c =
+    lost _ c.from_residual-in_err-write_row.ensures (ahead_passed (ahead_more (ahead_more (ahead_all refl) refl c.in_ok-write_all.ensures) refl c.in_ok-write_name.ensures) _ refl c.in_err-write_row.ensures)
 
 pub returns : goal.returns
 unfolding show_things
 returns c =
-    ahead_writes (ahead_more (ahead_more (ahead_more (ahead_all refl) refl c.in_ok-write_all.ensures) refl c.in_ok-write_name.ensures) refl c.in_ok-write_numbers.ensures) _ c.put.result c.put.ensures
+    ahead_writes (ahead_more (ahead_more (ahead_more (ahead_all refl) refl c.in_ok-write_all.ensures) refl c.in_ok-write_name.ensures) refl c.in_ok-write_row.ensures) _ c.put.result c.put.ensures
