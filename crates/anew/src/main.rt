@@ -6,8 +6,7 @@ use checker::{Refusal, rule_number};
 use std::alloc::Global;
 use std::io::Write;
 use std::{env, fs, io};
-use text::stage::{Opened, Stage, open};
-use text::write;
+use text::stage::{Failure, open};
 
 const USAGE: &str = "usage: anew TEXT
   TEXT  a file with the text of a model, which is written anew to standard output";
@@ -29,17 +28,9 @@ fn refuse(rt: &HostRuntime, refusal: Refusal) -> io::Result<()> {
     println!(rt; "refused {number} at {place}")
 }
 
-// Writes what memory holds; a text written anew is at most as long as it was.
-fn write_stage(rt: &HostRuntime, heap: Global, stage: &Stage, most: usize) -> anyhow::Result<()> {
-    let mut out = vec![in heap; 0u8; most]?;
-    match write(stage.model(), out.as_mut_slice()) {
-        Ok(count) => {
-            out.truncate(count);
-            rt.stdout().write_all(out.as_slice())?;
-        }
-        Err(refusal) => refuse(rt, refusal)?,
-    }
-    Ok(())
+// The text written anew, which is at most as long as it was.
+fn written(heap: Global, text: &[u8]) -> Result<Vec<u8>, Failure> {
+    open(heap, text)?.to_text(heap, text.len())
 }
 
 fn run(rt: &HostRuntime, heap: Global) -> anyhow::Result<()> {
@@ -48,9 +39,10 @@ fn run(rt: &HostRuntime, heap: Global) -> anyhow::Result<()> {
         return Err(anyhow!("the arguments are not what is expected"));
     };
     let bytes = fs::read(rt, path.as_str())?;
-    match open(heap, bytes.as_slice())? {
-        Opened::Ready(stage) => write_stage(rt, heap, &stage, bytes.len())?,
-        Opened::Refused(refusal) => refuse(rt, refusal)?,
+    match written(heap, bytes.as_slice()) {
+        Ok(text) => rt.stdout().write_all(text.as_slice())?,
+        Err(Failure::Refused(refusal)) => refuse(rt, refusal)?,
+        Err(Failure::Io(error)) => return Err(error.into()),
     }
     Ok(())
 }

@@ -5,15 +5,13 @@ ghost use Rattle.std.specs.Prelude.{◌≡◌, [], ◌∷◌};
 
 use body::Process;
 use meaning::Message;
-
-pub const COUNT: u32 = 7;
+use sequential::Program;
 
 // A model, its messages from outside and its end.
 #[derive(Clone, Copy)]
 pub struct Example {
     pub name: &'static str,
-    pub code: &'static [u32],
-    pub kinds: &'static [u32],
+    pub program: Program<'static>,
     pub processes: &'static [Process],
     // the first variable of each process; the others are 0
     pub first: u32,
@@ -56,7 +54,7 @@ const FIRST: Message = Message {
 
 // say it
 fn echo() -> Example
-    ensures { result.code.now ≡ all_words echo_model.model.bodies }
+    ensures { result.program.code.now ≡ all_words echo_model.model.bodies }
 {
     let outside = &[Message {
         time: 5,
@@ -67,8 +65,10 @@ fn echo() -> Example
     }];
     Example {
         name: "A",
-        code: &[3, 2, 0],
-        kinds: &[0],
+        program: Program {
+            code: &[3, 2, 0],
+            kinds: &[0],
+        },
         processes: &[BARE],
         first: 0,
         outside,
@@ -78,7 +78,7 @@ fn echo() -> Example
 
 // say it / if (it < 3) / send (it + 1) to (1 - me) after 2 / end
 fn rally() -> Example
-    ensures { result.code.now ≡ all_words rally_model.model.bodies }
+    ensures { result.program.code.now ≡ all_words rally_model.model.bodies }
 {
     let code = &[
         3, 2, 5, 12, 1, 10, 2, 0, 3, 4, 0, 2, 6, 0, 1, 3, 5, 2, 0, 1, 0, 0, 0,
@@ -92,8 +92,7 @@ fn rally() -> Example
     }];
     Example {
         name: "B",
-        code,
-        kinds: &[0],
+        program: Program { code, kinds: &[0] },
         processes: &[BARE, BARE],
         first: 0,
         outside,
@@ -103,7 +102,7 @@ fn rally() -> Example
 
 // a = (a + it) / say a
 fn sum() -> Example
-    ensures { result.code.now ≡ all_words sum_model.model.bodies }
+    ensures { result.program.code.now ≡ all_words sum_model.model.bodies }
 {
     let outside = &[
         Message {
@@ -130,8 +129,10 @@ fn sum() -> Example
     ];
     Example {
         name: "C",
-        code: &[1, 0, 5, 1, 0, 2, 3, 1, 0, 0],
-        kinds: &[0],
+        program: Program {
+            code: &[1, 0, 5, 1, 0, 2, 3, 1, 0, 0],
+            kinds: &[0],
+        },
         processes: &[WITH_A],
         first: 10,
         outside,
@@ -141,13 +142,12 @@ fn sum() -> Example
 
 // a = draw 6 / say a / send 0 to me after 1
 fn dice() -> Example
-    ensures { result.code.now ≡ all_words (dice_lines ∷ []) }
+    ensures { result.program.code.now ≡ all_words (dice_lines ∷ []) }
 {
     let code = &[2, 0, 0, 6, 3, 1, 0, 4, 0, 1, 3, 0, 0, 0];
     Example {
         name: "D",
-        code,
-        kinds: &[0],
+        program: Program { code, kinds: &[0] },
         processes: &[WITH_A],
         first: 0,
         outside: &[FIRST],
@@ -157,7 +157,7 @@ fn dice() -> Example
 
 // again it / a = (a + 1) / end / say a
 fn count_up() -> Example
-    ensures { result.code.now ≡ all_words (count_lines ∷ []) }
+    ensures { result.program.code.now ≡ all_words (count_lines ∷ []) }
 {
     let code = &[6, 8, 2, 1, 0, 5, 1, 0, 0, 1, 0, 3, 1, 0, 0];
     let outside = &[Message {
@@ -169,8 +169,7 @@ fn count_up() -> Example
     }];
     Example {
         name: "E",
-        code,
-        kinds: &[0],
+        program: Program { code, kinds: &[0] },
         processes: &[WITH_A],
         first: 0,
         outside,
@@ -180,7 +179,7 @@ fn count_up() -> Example
 
 // send 1 to 1 after 0 / send 2 to 1 after 1 / send 3 to 9 after 1, and for the second kind: say it
 fn fan() -> Example
-    ensures { result.code.now ≡ all_words fan_model.model.bodies }
+    ensures { result.program.code.now ≡ all_words fan_model.model.bodies }
 {
     let code = &[
         4, 0, 0, 0, 1, 0, 1, 4, 0, 1, 0, 1, 0, 2, 4, 0, 1, 0, 9, 0, 3, 0, 3, 2, 0,
@@ -194,8 +193,10 @@ fn fan() -> Example
     }];
     Example {
         name: "F",
-        code,
-        kinds: &[0, 22],
+        program: Program {
+            code,
+            kinds: &[0, 22],
+        },
         processes: &[BARE, SECOND],
         first: 0,
         outside,
@@ -205,13 +206,12 @@ fn fan() -> Example
 
 // say (0 - 1) / say (7 / 0) / say (7 % 4)
 fn wrap() -> Example
-    ensures { result.code.now ≡ all_words wrap_model.model.bodies }
+    ensures { result.program.code.now ≡ all_words wrap_model.model.bodies }
 {
     let code = &[3, 6, 0, 0, 0, 1, 3, 8, 0, 7, 0, 0, 3, 9, 0, 7, 0, 4, 0];
     Example {
         name: "G",
-        code,
-        kinds: &[0],
+        program: Program { code, kinds: &[0] },
         processes: &[BARE],
         first: 0,
         outside: &[FIRST],
@@ -219,14 +219,6 @@ fn wrap() -> Example
     }
 }
 
-pub fn entry(k: u32) -> Example {
-    match k {
-        0 => echo(),
-        1 => rally(),
-        2 => sum(),
-        3 => dice(),
-        4 => count_up(),
-        5 => fan(),
-        _ => wrap(),
-    }
+pub fn examples() -> [Example; 7] {
+    [echo(), rally(), sum(), dice(), count_up(), fan(), wrap()]
 }

@@ -3,10 +3,12 @@
 
 use anyhow::anyhow;
 use checker::{Refusal, number_of, rule_number};
+use sequential::Outcome;
 use std::alloc::Global;
 use std::io::{BufWriter, Write};
 use std::{env, fs, io};
-use text::play::{Asked, Verdict, Watch, play, settle};
+use text::play::{Asked, Given, play, settle};
+use text::stage::Failure;
 
 const USAGE: &str = "usage: plain_text TEXT LUCK END R [progress]
   TEXT      a file with the text of a model
@@ -69,25 +71,9 @@ fn read_command(rt: &HostRuntime) -> io::Result<Option<Command>> {
     };
     Ok(Some(Command {
         path,
-        asked: Asked { end, luck, places },
+        asked: Given { end, luck, places },
         loud,
     }))
-}
-
-// Counts messages on standard error, if asked to.
-#[derive(Drop)]
-struct Counter<'a> {
-    rt: &'a HostRuntime,
-    loud: bool,
-}
-
-impl Watch for Counter<'_> {
-    fn handled(&mut self, messages: u64) -> io::Result<()> {
-        if self.loud {
-            eprintln!(self.rt; "{messages} messages")?;
-        }
-        Ok(())
-    }
 }
 
 fn refuse(rt: &HostRuntime, refusal: Refusal) -> io::Result<()> {
@@ -110,16 +96,18 @@ fn run(rt: &HostRuntime, heap: Global) -> anyhow::Result<()> {
     };
     let bytes = fs::read(rt, command.path.as_str())?;
     let mut out = BufWriter::new(heap, rt.stdout())?;
-    let mut counter = Counter {
-        rt,
-        loud: command.loud,
-    };
-    let verdict = play(heap, bytes.as_slice(), settings, &mut out, &mut counter)?;
+    let outcome = play(heap, bytes.as_slice(), settings, &mut out, |messages| {
+        if command.loud {
+            eprintln!(rt; "{messages} messages")?;
+        }
+        Ok(())
+    });
     out.flush()?;
-    match verdict {
-        Verdict::Done => println!(rt; "done")?,
-        Verdict::NotDone => println!(rt; "not done")?,
-        Verdict::Refused(refusal) => refuse(rt, refusal)?,
+    match outcome {
+        Ok(Outcome::Ended) => println!(rt; "done")?,
+        Ok(_) => println!(rt; "not done")?,
+        Err(Failure::Refused(refusal)) => refuse(rt, refusal)?,
+        Err(Failure::Io(error)) => return Err(error.into()),
     }
     Ok(())
 }

@@ -1,56 +1,33 @@
 // The cases of a table: three lines each, a word with a label, the bytes with escapes, and a last line.
-ghost use Rattle.std.specs.Prelude.{◌≤◌, length};
+ghost use Rattle.std.specs.Prelude.{◌<◌, ◌≤◌, length};
 
 use std::alloc::{AllocError, Global};
 
+#[derive(Clone, Copy)]
 pub struct Case<'a> {
     pub label: &'a [u8],
     pub bytes: &'a [u8],
     pub expected: &'a [u8],
 }
 
-// What is left of a table.
-#[derive(Drop)]
-pub struct Cases<'a> {
-    rest: &'a [u8],
-}
-
-impl<'a> Cases<'a> {
-    pub fn new(table: &'a [u8]) -> Self {
-        Cases { rest: table }
+// The cases whose first line begins with the word.
+pub fn cases<'a>(heap: Global, table: &'a [u8], word: &[u8]) -> Result<Vec<Case<'a>>, AllocError> {
+    let mut out = Vec::new(heap);
+    let mut lines = table.split(|b| *b == b'\n');
+    while let Some(first) = lines.next() {
+        let Some(label) = first.strip_prefix(word) else {
+            continue;
+        };
+        let (Some(bytes), Some(expected)) = (lines.next(), lines.next()) else {
+            break;
+        };
+        out.push(Case {
+            label,
+            bytes,
+            expected,
+        })?;
     }
-
-    fn next_line(&mut self) -> Option<&'a [u8]> {
-        let rest = self.rest;
-        if rest.is_empty() {
-            return None;
-        }
-        let end = find(rest, b'\n');
-        if end < rest.len() {
-            self.rest = &rest[end + 1..];
-            Some(&rest[0..end])
-        } else {
-            self.rest = &rest[rest.len()..];
-            Some(rest)
-        }
-    }
-
-    // The next case whose first line begins with the word.
-    pub fn next_case(&mut self, word: &[u8]) -> Option<Case<'a>> {
-        for _line in 0..u64::MAX {
-            let first = self.next_line()?;
-            if let Some(label) = first.strip_prefix(word) {
-                let bytes = self.next_line()?;
-                let expected = self.next_line()?;
-                return Some(Case {
-                    label,
-                    bytes,
-                    expected,
-                });
-            }
-        }
-        None
-    }
+    Ok(out)
 }
 
 fn hex(b: u8) -> u8 {
@@ -61,14 +38,19 @@ fn hex(b: u8) -> u8 {
     }
 }
 
-// The byte that stands at the front, and how many bytes it takes: \n, \xNN, \\ or itself.
-fn unescape(line: &[u8]) -> (u8, usize) {
+// The byte that stands at the front, as \n, \xNN, \\ or itself, and what lies behind it.
+fn unescape(line: &[u8]) -> (u8, &[u8])
+    requires { 0 < length line.now }
+    ensures { length result.1.now < length line.now }
+{
     match line {
-        [b'\\', b'n', ..] => (b'\n', 2),
-        [b'\\', b'x', high, low, ..] => (hex(*high).wrapping_mul(16).wrapping_add(hex(*low)), 4),
-        [b'\\', b'\\', ..] => (b'\\', 2),
-        [b, ..] => (*b, 1),
-        [] => (0, 1),
+        [b'\\', b'n', rest @ ..] => (b'\n', rest),
+        [b'\\', b'x', high, low, rest @ ..] => {
+            (hex(*high).wrapping_mul(16).wrapping_add(hex(*low)), rest)
+        }
+        [b'\\', b'\\', rest @ ..] => (b'\\', rest),
+        [b, rest @ ..] => (*b, rest),
+        [] => (0, line),
     }
 }
 
@@ -76,76 +58,47 @@ fn unescape(line: &[u8]) -> (u8, usize) {
 fn unescape_all(heap: Global, line: &[u8]) -> Result<Vec<u8>, AllocError> {
     let mut out = Vec::new(heap);
     let mut rest = line;
-    for _byte in 0..line.len() {
-        if rest.is_empty() {
-            break;
-        }
-        let (b, taken) = unescape(rest);
+    while !rest.is_empty() {
+        let (b, behind) = unescape(rest);
         out.push(b)?;
-        rest = if taken < rest.len() {
-            &rest[taken..]
-        } else {
-            &rest[rest.len()..]
-        };
+        rest = behind;
     }
     Ok(out)
 }
 
-// Where a byte first stands; the length if it doesn't.
-fn find(line: &[u8], wanted: u8) -> usize
-    ensures { result ≤ length line.now }
-{
-    for (i, b) in line.iter().enumerate() {
-        if *b == wanted {
-            return i;
-        }
+// What stands before the first such byte, and what lies behind it, if it is there.
+fn split_at_first(line: &[u8], wanted: u8) -> (&[u8], Option<&[u8]>) {
+    match line.iter().position(|b| *b == wanted) {
+        Some(at) => (&line[..at], Some(&line[at + 1..])),
+        None => (line, None),
     }
-    line.len()
 }
 
 // COUNT:STRING, the bytes of STRING as often as COUNT says.
 fn repeat(heap: Global, out: &mut Vec<u8>, inside: &[u8]) -> Result<(), AllocError> {
-    let colon = find(inside, b':');
-    let Some(count) = checker::number_of(&inside[0..colon]) else {
+    let (count, string) = split_at_first(inside, b':');
+    let (Some(count), Some(string)) = (checker::number_of(count), string) else {
         return Ok(());
     };
-    if colon >= inside.len() {
-        return Ok(());
-    }
-    let bytes = unescape_all(heap, &inside[colon + 1..])?;
+    let bytes = unescape_all(heap, string)?;
     for _turn in 0..count {
         out.extend_from_slice(bytes.as_slice())?;
     }
     Ok(())
 }
 
-// The bytes up to and with the first repeat, and what stands behind it.
-fn expand_part<'a>(
-    heap: Global,
-    out: &mut Vec<u8>,
-    rest: &'a [u8],
-) -> Result<&'a [u8], AllocError> {
-    let open = find(rest, b'{');
-    let before = unescape_all(heap, &rest[0..open])?;
-    out.extend_from_slice(before.as_slice())?;
-    if open >= rest.len() {
-        return Ok(&rest[open..]);
-    }
-    let behind = &rest[open + 1..];
-    let close = find(behind, b'}');
-    repeat(heap, out, &behind[0..close])?;
-    if close >= behind.len() {
-        return Ok(&behind[close..]);
-    }
-    Ok(&behind[close + 1..])
-}
-
-// The bytes that a line stands for.
+// The bytes that a line stands for: what stands between braces is a repeat.
 pub fn expand(heap: Global, line: &[u8]) -> Result<Vec<u8>, AllocError> {
     let mut out = Vec::new(heap);
-    let mut rest = line;
-    for _part in 0..line.len() {
-        rest = expand_part(heap, &mut out, rest)?;
+    for (k, part) in line.split(|b| *b == b'{').enumerate() {
+        let mut plain = part;
+        if k > 0 {
+            let (inside, behind) = split_at_first(part, b'}');
+            repeat(heap, &mut out, inside)?;
+            plain = behind.unwrap_or(&[]);
+        }
+        let bytes = unescape_all(heap, plain)?;
+        out.extend_from_slice(bytes.as_slice())?;
     }
     Ok(out)
 }

@@ -1,11 +1,14 @@
 // Memory for a text, made as large as any text of so many bytes needs, and the model that it is filled with.
-ghost use Rattle.std.specs.Prelude.{◌≡◌};
+ghost use Rattle.std.specs.Prelude.{◌≡◌, IfOk};
+ghost use Rattle.text.specs.Written.{text_bytes};
+ghost use Rattle.text.specs.declared.stage.Failure.TheVariants.{Refused};
 
-use super::{Model, load};
+use super::{Model, load, write};
 use body::Process;
 use checker::Refusal;
 use meaning::Message;
 use std::alloc::{AllocError, Global};
+use std::io;
 
 // The most bytes of all lines of kinds, so the most words.
 const WORDS: usize = 4194304;
@@ -22,21 +25,6 @@ const THING_BYTES: usize = 8;
 const NOTES: usize = 65536;
 
 const NOTE_BYTES: usize = 14;
-
-const NOTHING: Message = Message {
-    time: 0,
-    to: 0,
-    from: 0,
-    count: 0,
-    number: 0,
-};
-
-const NOBODY: Process = Process {
-    kind: 0,
-    width: 0,
-    seed: 0,
-    sent: 0,
-};
 
 // A model with its names: words, where each kind's words begin, names, processes with their variables, and messages.
 #[derive(Drop)]
@@ -67,13 +55,43 @@ impl Stage {
             messages: self.messages.as_slice(),
         }
     }
+
+    // The text of the model, if it takes no more than so many bytes.
+    pub fn to_text(&self, heap: Global, most: usize) -> Result<Vec<u8>, Failure>
+        ensures { IfOk result (λ v. v.items ≡ text_bytes self.now.code.items self.now.kinds.items self.now.names.items self.now.processes.items self.now.vars.items self.now.messages.items) }
+    {
+        let mut out = vec![in heap; 0u8; most]?;
+        let count = write(self.model(), out.as_mut_slice())?;
+        out.truncate(count);
+        Ok(out)
+    }
 }
 
-// A text that was taken, or refused.
-#[derive(Drop)]
-pub enum Opened {
-    Ready(Stage),
+// Why a text was not opened or played: it was refused, or there was no memory, or the output failed.
+#[derive(Debug, Drop)]
+pub enum Failure {
     Refused(Refusal),
+    Io(io::Error),
+}
+
+impl From<Refusal> for Failure {
+    ghost from_gives = { λ refusal failure. failure ≡ Refused refusal };
+
+    fn from(refusal: Refusal) -> Failure {
+        Failure::Refused(refusal)
+    }
+}
+
+impl From<io::Error> for Failure {
+    fn from(error: io::Error) -> Failure {
+        Failure::Io(error)
+    }
+}
+
+impl From<AllocError> for Failure {
+    fn from(error: AllocError) -> Failure {
+        Failure::Io(error.into())
+    }
 }
 
 // Memory for any text of so many bytes.
@@ -85,16 +103,16 @@ fn make_stage(heap: Global, bytes: usize) -> Result<Stage, AllocError> {
         code: vec![in heap; 0; WORDS.min(bytes)]?,
         kinds: vec![in heap; 0; kinds]?,
         names: vec![in heap; 0; 65 * kinds]?,
-        processes: vec![in heap; NOBODY; things]?,
+        processes: vec![in heap; Process::default(); things]?,
         vars: vec![in heap; 0; 64 * things]?,
-        messages: vec![in heap; NOTHING; notes]?,
+        messages: vec![in heap; Message::default(); notes]?,
     })
 }
 
 // Reads a text into memory of its own.
-pub fn open(heap: Global, text: &[u8]) -> Result<Opened, AllocError> {
+pub fn open(heap: Global, text: &[u8]) -> Result<Stage, Failure> {
     let mut stage = make_stage(heap, text.len())?;
-    match load(
+    let extent = load(
         text,
         stage.code.as_mut_slice(),
         stage.kinds.as_mut_slice(),
@@ -102,13 +120,9 @@ pub fn open(heap: Global, text: &[u8]) -> Result<Opened, AllocError> {
         stage.processes.as_mut_slice(),
         stage.vars.as_mut_slice(),
         stage.messages.as_mut_slice(),
-    ) {
-        Ok(extent) => {
-            stage.kinds.truncate(extent.kinds);
-            stage.processes.truncate(extent.things);
-            stage.messages.truncate(extent.notes);
-            Ok(Opened::Ready(stage))
-        }
-        Err(refusal) => Ok(Opened::Refused(refusal)),
-    }
+    )?;
+    stage.kinds.truncate(extent.kinds);
+    stage.processes.truncate(extent.things);
+    stage.messages.truncate(extent.notes);
+    Ok(stage)
 }
