@@ -32,15 +32,7 @@ fn refuse(rt: &HostRuntime, refusal: Refusal) -> io::Result<()> {
 // Writes what memory holds; a text written anew is at most as long as it was.
 fn write_stage(rt: &HostRuntime, heap: Global, stage: &Stage, most: usize) -> anyhow::Result<()> {
     let mut out = vec![in heap; 0u8; most]?;
-    match write(
-        stage.code.as_slice(),
-        stage.kinds.as_slice(),
-        stage.names.as_slice(),
-        stage.processes.as_slice(),
-        stage.vars.as_slice(),
-        stage.messages.as_slice(),
-        out.as_mut_slice(),
-    ) {
+    match write(stage.model(), out.as_mut_slice()) {
         Ok(count) => {
             out.truncate(count);
             rt.stdout().write_all(out.as_slice())?;

@@ -1,14 +1,11 @@
 -- Lines with no lines in them: what the code does for each is what they say.
-use Rattle.std.proofs.Common.{◌≡◌, ℕ, ◌+◌, ◌<◌, ◌≤◌, min, List, get_or, drop, set, sym, refl, ◌∙◌, subst, ap₂}
-use Rattle.std.proofs.lemmas.Bool.{lt-ltb, le-ltb}
-use Rattle.meaning.specs.declared.Message.{Message}
-use Rattle.meaning.specs.declared.Line.{Line}
+use Rattle.std.proofs.Common.{◌≡◌, ℕ, List, get_or, drop, set, sym, refl, ◌∙◌, subst, ap₂}
 use Rattle.meaning.specs.Model.{Body, next_seed, drawn}
 use Rattle.body.specs.declared.Event.{Event}
 use Rattle.body.specs.declared.Act.{Act}
 use Rattle.body.specs.declared.Act.TheVariants.{Assign, Draw, Say, Send}
 use Rattle.body.specs.Code.{act_by, expr_of, Evaluated}
-use Rattle.body.specs.Play.{Room, top, put_var, put_drawn, put_line, put_sent, letter, plays, value_at, Acted}
+use Rattle.body.specs.Play.{Room, put_var, put_drawn, put_line, put_sent, plays, value_at, Acted}
 
 -- Where the line is read to behind, and the room it makes is r'.
 moved : (e : Event) (go : List ℕ → Body) (r r₁ r' : Room) (b : Body) (rest behind : List ℕ) →
@@ -32,27 +29,17 @@ module _ (n : ℕ) (e : Event) (op : Act) (ws : List ℕ) (r : Room) where
       subst (λ o. plays e (act_by o (expr_of n) go ws) r ≡ plays e (go behind) (record { vars = vs; seed = c; sends = r.sends; sent = r.sent; lines = r.lines; said = r.said })) (sym p)
       (moved e go r (put_drawn (get_or ws 0 0) (value_at e r (expr_of n (drop 1 ws)).expr) r) _ (act_by Draw (expr_of n) go ws) (expr_of n (drop 1 ws)).rest behind refl (cc) (cc))
 
-  pub did_say : (a : ℕ) (behind : List ℕ) (ls : List Line) (k : ℕ) → op ≡ Say → Evaluated r.vars e n ws a behind →
-      ls ≡ set r.lines r.said (record { time = e.clock; process = e.me; number = a }) → k ≡ min (r.said + 1) top →
-      Acted op n e ws r behind (record { vars = r.vars; seed = r.seed; sends = r.sends; sent = r.sent; lines = ls; said = k })
-  unfolding plays put_line
-  did_say a behind ls k p ev v w go =
-      subst (λ o. plays e (act_by o (expr_of n) go ws) r ≡ plays e (go behind) (record { vars = r.vars; seed = r.seed; sends = r.sends; sent = r.sent; lines = ls; said = k })) (sym p)
-      (moved e go r (put_line (record { time = e.clock; process = e.me; number = value_at e r (expr_of n ws).expr }) r) _ (act_by Say (expr_of n) go ws) (expr_of n ws).rest behind refl (cc) (cc))
+  pub did_say : (a : ℕ) (behind : List ℕ) (r' : Room) → op ≡ Say → Evaluated r.vars e n ws a behind →
+      r' ≡ put_line (record { time = e.clock; process = e.me; number = a }) r → Acted op n e ws r behind r'
+  unfolding plays
+  did_say a behind r' p ev q go =
+      subst (λ o. plays e (act_by o (expr_of n) go ws) r ≡ plays e (go behind) r') (sym p)
+      (moved e go r (put_line (record { time = e.clock; process = e.me; number = value_at e r (expr_of n ws).expr }) r) r' (act_by Say (expr_of n) go ws) (expr_of n ws).rest behind refl (cc) (cc))
 
-  module _ (delay to number : ℕ) (w₁ w₂ w₃ : List ℕ) (p : op ≡ Send) (ev₁ : Evaluated r.vars e n ws delay w₁) (ev₂ : Evaluated r.vars e n w₁ to w₂) (ev₃ : Evaluated r.vars e n w₂ number w₃) where
-    sending_by : (r' : Room) → put_sent e delay to number r ≡ r' → Acted op n e ws r w₃ r'
-    unfolding plays
-    sending_by r' q go =
-        subst (λ o. plays e (act_by o (expr_of n) go ws) r ≡ plays e (go w₃) r') (sym p)
-        (moved e go r (put_sent e (value_at e r (expr_of n ws).expr) (value_at e r (expr_of n (expr_of n ws).rest).expr) (value_at e r (expr_of n (expr_of n (expr_of n ws).rest).rest).expr) r) r'
-        (act_by Send (expr_of n) go ws) (expr_of n (expr_of n (expr_of n ws).rest).rest).rest w₃ refl (cc) (cc))
-
-    pub did_send : (xs : List Message) (k : ℕ) (x : Message) → to < e.processes → x ≡ letter e r.sent delay to number → xs ≡ set r.sends r.sent x → k ≡ min (r.sent + 1) top →
-        Acted op n e ws r w₃ (record { vars = r.vars; seed = r.seed; sends = xs; sent = k; lines = r.lines; said = r.said })
-    unfolding put_sent
-    did_send xs k x h y v w = sending_by _ (rw (lt-ltb to e.processes h) (cc))
-
-    pub did_lose : e.processes ≤ to → Acted op n e ws r w₃ r
-    unfolding put_sent
-    did_lose h = sending_by r (rw (le-ltb to e.processes h) refl)
+  pub did_send : (delay to number : ℕ) (w₁ w₂ w₃ : List ℕ) (r' : Room) → op ≡ Send → Evaluated r.vars e n ws delay w₁ → Evaluated r.vars e n w₁ to w₂ →
+      Evaluated r.vars e n w₂ number w₃ → r' ≡ put_sent e delay to number r → Acted op n e ws r w₃ r'
+  unfolding plays
+  did_send delay to number w₁ w₂ w₃ r' p ev₁ ev₂ ev₃ q go =
+      subst (λ o. plays e (act_by o (expr_of n) go ws) r ≡ plays e (go w₃) r') (sym p)
+      (moved e go r (put_sent e (value_at e r (expr_of n ws).expr) (value_at e r (expr_of n (expr_of n ws).rest).expr) (value_at e r (expr_of n (expr_of n (expr_of n ws).rest).rest).expr) r) r'
+      (act_by Send (expr_of n) go ws) (expr_of n (expr_of n (expr_of n ws).rest).rest).rest w₃ refl (cc) (cc))

@@ -1,46 +1,43 @@
 -- Lines one after the other and in each other: what the code does with them is what they say.
-use Rattle.std.proofs.Common.{◌≡◌, ℕ, zero, suc, ◌+◌, ◌-◌, ◌<◌, ◌≤◌, min, true, false, eqb, ◌⊎◌, List, [], ◌∷◌, length, get_or, drop, sym, refl, ap, ◌∙◌, subst, inl, inr, sub-one, arith}
-use Rattle.std.proofs.lemmas.Bool.{eqb-true, eq-eqb, ne_eqb, cond-true, cond-false}
+use Rattle.std.proofs.Common.{◌≡◌, ℕ, zero, suc, ◌+◌, ◌-◌, ◌<◌, min, true, false, eqb, ◌⊎◌, List, [], ◌∷◌, length, get_or, drop, sym, refl, ap, ◌∙◌, subst, inl, inr, sub-one, arith}
+use Rattle.std.proofs.lemmas.Bool.{eq-eqb, ne_eqb, cond-true, cond-false}
 use Rattle.meaning.specs.Model.{iterate}
 use Rattle.body.specs.declared.Event.{Event}
 use Rattle.body.specs.declared.Act.{Act}
 use Rattle.body.specs.declared.LineOp.{LineOp}
 use Rattle.body.specs.declared.LineOp.TheVariants.{Stop, Do, Branch, Repeat}
 use Rattle.body.specs.Code.{body_of, body_by, expr_of, line_op, Evaluated}
-use Rattle.body.specs.Play.{Room, plays, value_at, Acted}
-use Rattle.body.proofs.Words.{some_left}
+use Rattle.body.specs.declared.Frame.{Frame}
+use Rattle.body.specs.Play.{Room, plays, value_at, Acted, SameLent}
 
-pub body_step : (n : ℕ) (ws : List ℕ) → 0 < n → 0 < length ws → body_of n ws ≡ body_by (line_op (get_or ws 0 0)) (expr_of (n - 1)) (body_of (n - 1)) (drop 1 ws)
+body_step : (n : ℕ) (ws : List ℕ) (w : ℕ) (tail : List ℕ) → 0 < n → ws ≡ w ∷ tail → body_of n ws ≡ body_by (line_op w) (expr_of (n - 1)) (body_of (n - 1)) tail
 unfolding body_of
-body_step zero ws h k = absurd (omega arith)
-body_step (suc n) [] h k = absurd (omega arith)
-body_step (suc n) (w ∷ ws) h k = rw sub-one refl
+body_step zero ws w tail h p = absurd (omega arith)
+body_step (suc n) ws w tail h p = ap (body_of (suc n)) p ∙ (rw sub-one refl)
 
 -- Where no line is left, nothing more is played.
-pub ended : (e : Event) (r : Room) (n : ℕ) (ws : List ℕ) → (n ≤ 0) ⊎ (true ≡ eqb (length ws) 0) → plays e (body_of n ws) r ≡ r
+pub ended : (e : Event) (r : Room) (n : ℕ) (ws : List ℕ) → (n ≡ 0) ⊎ (length ws ≡ 0) → plays e (body_of n ws) r ≡ r
 unfolding plays body_of
 ended e r zero ws h = refl
 ended e r (suc n) [] h = refl
-ended e r (suc n) (w ∷ ws) (inl h) = absurd (omega arith)
-ended e r (suc n) (w ∷ ws) (inr h) = absurd (omega (arith, eqb-true (length (w ∷ ws)) 0 (sym h)))
+ended e r (suc n) (w ∷ ws) (inl h) = absurd (omega (arith, h))
+ended e r (suc n) (w ∷ ws) (inr h) = absurd (omega (arith, h))
 
 -- A line at the front of ws that opens by op; tail stands behind its first word.
-module _ (e : Event) (r : Room) (n : ℕ) (ws tail : List ℕ) (some : 0 < n) (left : false ≡ eqb (length ws) 0) (behind : tail ≡ drop 1 ws) where
-  opened : (op : LineOp) → op ≡ line_op (get_or ws 0 0) → body_of n ws ≡ body_by op (expr_of (n - 1)) (body_of (n - 1)) tail
+module _ (e : Event) (r : Room) (n : ℕ) (ws : List ℕ) (w : ℕ) (tail : List ℕ) (some : 0 < n) (front : ws ≡ w ∷ tail) where
+  opened : (op : LineOp) → op ≡ line_op w → body_of n ws ≡ body_by op (expr_of (n - 1)) (body_of (n - 1)) tail
   opened op p =
-      subst (λ o. body_of n ws ≡ body_by o (expr_of (n - 1)) (body_of (n - 1)) tail) (sym p)
-      (subst (λ t. body_of n ws ≡ body_by (line_op (get_or ws 0 0)) (expr_of (n - 1)) (body_of (n - 1)) t) (sym behind)
-      (body_step n ws some (some_left (length ws) left)))
+      subst (λ o. body_of n ws ≡ body_by o (expr_of (n - 1)) (body_of (n - 1)) tail) (sym p) (body_step n ws w tail some front)
 
-  pub at_stop : Stop ≡ line_op (get_or ws 0 0) → plays e (body_of n ws) r ≡ r
+  pub at_stop : Stop ≡ line_op w → plays e (body_of n ws) r ≡ r
   unfolding plays
   at_stop p = ap (λ b. plays e b r) (opened Stop p)
 
-  pub at_act : (a : Act) → Do a ≡ line_op (get_or ws 0 0) → (rest : List ℕ) (r' : Room) → Acted a (n - 1) e tail r rest r' →
+  pub at_act : (a : Act) → Do a ≡ line_op w → (rest : List ℕ) (r' : Room) → Acted a (n - 1) e tail r rest r' →
       plays e (body_of (n - 1) rest) r' ≡ plays e (body_of n ws) r
   at_act a p rest r' did = sym (ap (λ b. plays e b r) (opened (Do a) p) ∙ did (body_of (n - 1)))
 
-  pub at_branch : Branch ≡ line_op (get_or ws 0 0) → (x : ℕ) (w₂ then otherwise rest : List ℕ) (j k : ℕ) (chosen : List ℕ) (r' : Room) →
+  pub at_branch : Branch ≡ line_op w → (x : ℕ) (w₂ then otherwise rest : List ℕ) (j k : ℕ) (chosen : List ℕ) (r' : Room) →
       w₂ ≡ drop 2 tail → Evaluated r.vars e (n - 1) w₂ x then → j ≡ get_or tail 0 0 → otherwise ≡ drop j then →
       ((x ≡ 0) × (chosen ≡ otherwise)) ⊎ ((x ≡ 0 → ⊥) × (chosen ≡ then)) → r' ≡ plays e (body_of (n - 1) chosen) r →
       k ≡ get_or tail 1 0 → rest ≡ drop k otherwise → plays e (body_of (n - 1) rest) r' ≡ plays e (body_of n ws) r
@@ -62,7 +59,7 @@ module _ (e : Event) (r : Room) (n : ℕ) (ws tail : List ℕ) (some : 0 < n) (l
       (cond-false (eqb (value_at e r (expr_of (n - 1) (drop 2 tail)).expr) 0) _ _ z)
       ∙ (cc))
 
-  pub at_repeat : Repeat ≡ line_op (get_or ws 0 0) → (x turns : ℕ) (w₁ body rest : List ℕ) (j : ℕ) (r' : Room) →
+  pub at_repeat : Repeat ≡ line_op w → (x turns : ℕ) (w₁ body rest : List ℕ) (j : ℕ) (r' : Room) →
       w₁ ≡ drop 1 tail → Evaluated r.vars e (n - 1) w₁ x body → turns ≡ min x 1000 → r' ≡ iterate turns (plays e (body_of (n - 1) body)) r →
       j ≡ get_or tail 0 0 → rest ≡ drop j body → plays e (body_of (n - 1) rest) r' ≡ plays e (body_of n ws) r
   unfolding plays
@@ -83,3 +80,8 @@ pub iterate_none : {A : Type 0} (f : A → A) (n : ℕ) (r : A) → n ≡ 0 → 
 unfolding iterate
 iterate_none f zero r h = refl
 iterate_none f (suc n) r h = absurd (omega arith)
+
+-- What keeps the event and the lent slices, twice.
+pub same_then : {f g h : Frame} → SameLent f g → SameLent g h → SameLent f h
+same_then s t =
+    record { event = t.event ∙ s.event; vars = t.vars ∙ s.vars; sends = t.sends ∙ s.sends; lines = t.lines ∙ s.lines }

@@ -6,10 +6,11 @@ use Rattle.meaning.specs.declared.Line.{Line}
 use Rattle.meaning.specs.Model.{Done}
 use Rattle.meaning.proofs.Exec.{Counted, Extends, extends_exec}
 use Rattle.body.specs.declared.Event.{Event}
+use Rattle.body.specs.declared.Process.{Process}
 use Rattle.body.specs.declared.Tally.{Tally}
 use Rattle.body.specs.declared.Refusal.TheVariants.{Count}
 use Rattle.body.specs.Code.{body_of}
-use Rattle.body.specs.Play.{Room, room, top, plays, does_at, tally_of, answer, filled}
+use Rattle.body.specs.Play.{Room, room, top, plays, does_at, tally_of, answer, filled, Lent}
 use Rattle.body.proofs.Bridge.{over, over_filled, capped, shown, bridge}
 
 -- Before its first line an event has sent and said nothing.
@@ -111,3 +112,9 @@ kept e code c vs S L r t h k l q fs fl ft p =
       count = same;
       answer_is = ap₂ (λ m n. Ok (record { sends = m; lines = n })) hd.sent hd.said ∙ answers_ok d e.sent (length S) (length L) cs h k gs gl gt;
     }
+
+-- Lent memory is the same if its parts are, by way of what a run of lines left.
+pub lent_by : (p q : Process) (vs ws us : List ℕ) (xs ys zs : List Message) (ls ms ns : List Line) → p ≡ q → vs ≡ ws → ws ≡ us → xs ≡ ys → ys ≡ zs → ls ≡ ms → ms ≡ ns →
+    ◌≡◌ {A = Lent} (record { process = p; vars = vs; sends = xs; lines = ls }) (record { process = q; vars = us; sends = zs; lines = ns })
+lent_by p q vs ws us xs ys zs ls ms ns a b c d e f g =
+    λ i. record { process = a i; vars = (b ∙ c) i; sends = (d ∙ e) i; lines = (f ∙ g) i }

@@ -19,6 +19,22 @@ expr_op w =
     (cond (w == 5) (Two Plus) (cond (w == 6) (Two Minus) (cond (w == 7) (Two Times) (cond (w == 8) (Two Over)
     (cond (w == 9) (Two Remains) (cond (w == 10) (Two Less) (cond (w == 11) (Two Same) Nothing)))))))))))
 
+-- The word that opens an expression so; 12 is the first that opens none.
+abbrev pub expr_word : ExprOp → ℕ
+expr_word Fixed = 0
+expr_word Var = 1
+expr_word It = 2
+expr_word Me = 3
+expr_word Clock = 4
+expr_word (Two Plus) = 5
+expr_word (Two Minus) = 6
+expr_word (Two Times) = 7
+expr_word (Two Over) = 8
+expr_word (Two Remains) = 9
+expr_word (Two Less) = 10
+expr_word (Two Same) = 11
+expr_word Nothing = 12
+
 -- The expression of two.
 abbrev pub of_two : Binary → Expr → Expr → Expr
 of_two Plus e f = plus e f
@@ -69,6 +85,16 @@ pub record Evaluated (vs : List ℕ) (e : Event) (n : ℕ) (ws : List ℕ) (v : 
 abbrev pub line_op : ℕ → LineOp
 line_op w =
     cond (w == 1) (Do Assign) (cond (w == 2) (Do Draw) (cond (w == 3) (Do Say) (cond (w == 4) (Do Send) (cond (w == 5) Branch (cond (w == 6) Repeat Stop)))))
+
+-- The word that opens a line so.
+abbrev pub line_word : LineOp → ℕ
+line_word Stop = 0
+line_word (Do Assign) = 1
+line_word (Do Draw) = 2
+line_word (Do Say) = 3
+line_word (Do Send) = 4
+line_word Branch = 5
+line_word Repeat = 6
 
 -- A line with no lines in it, at the front of ws, and the lines behind it; ex reads an expression, go lines.
 abbrev pub act_by : Act → (List ℕ → Read) → (List ℕ → Body) → List ℕ → Body

@@ -1,7 +1,9 @@
 -- The words of expressions and of lines: the way back from what a row of words stands for.
 use Rattle.std.specs.Prelude.{◌≡◌, ℕ, ◌≤◌, List, [], ◌∷◌, ◌++◌, length}
 use Rattle.meaning.specs.Model.{Expr, fixed, var, it, me, clock, plus, minus, times, over, remains, less, same, Body, stop, assign, draw, say, send, branch, repeat}
-use Rattle.body.specs.Code.{body_of}
+use Rattle.body.specs.declared.ExprOp.{ExprOp}
+use Rattle.body.specs.declared.LineOp.{LineOp}
+use Rattle.body.specs.Code.{body_of, expr_op, expr_word, line_op, line_word}
 
 -- The words of an expression: one for how it opens, then those of its parts in their order.
 unfoldable pub encode_expr : Expr → List ℕ
@@ -31,3 +33,8 @@ encode (repeat e b rest) = 6 ∷ length (encode b) ∷ encode_expr e ++ encode b
 -- The words of lines stand for those lines, whatever stands behind them.
 abbrev pub WordsDecode : Type 0
 WordsDecode = (b : Body) (rest : List ℕ) (n : ℕ) → length (encode b) ≤ n → body_of n (encode b ++ rest) ≡ b
+
+-- The word of each operation opens just that operation.
+pub record OperationsBack : Type 0 where
+  pub exprs : (op : ExprOp) → expr_op (expr_word op) ≡ op
+  pub lines : (op : LineOp) → line_op (line_word op) ≡ op

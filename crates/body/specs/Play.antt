@@ -11,6 +11,7 @@ use Rattle.body.specs.declared.Refusal.{Refusal}
 use Rattle.body.specs.declared.Refusal.TheVariants.{Sends, Lines, Count}
 use Rattle.body.specs.declared.Event.{Event}
 use Rattle.body.specs.declared.Tally.{Tally}
+use Rattle.body.specs.declared.Frame.{Frame}
 
 -- The largest number of a counter.
 abbrev pub top : ℕ
@@ -29,6 +30,17 @@ pub record Room : Type 0 where
 -- The room that lent slices and a tally make.
 abbrev pub room : List ℕ → Tally → List Message → List Line → Room
 room vs t xs ls = record { vars = vs; seed = t.seed; sends = xs; sent = t.sends; lines = ls; said = t.lines }
+
+-- The room that a frame makes.
+abbrev pub room_in : Frame → Room
+room_in f = room f.vars.now f.tally f.sends.now f.lines.now
+
+-- The same event, and the same lent slices, whatever they hold.
+pub record SameLent (f g : Frame) : Type 0 where
+  pub event : g.event ≡ f.event
+  pub vars : g.vars.ghost_name ≡ f.vars.ghost_name
+  pub sends : g.sends.ghost_name ≡ f.sends.ghost_name
+  pub lines : g.lines.ghost_name ≡ f.lines.ghost_name
 
 -- Variable k is a.
 unfoldable pub put_var : ℕ → ℕ → Room → Room

@@ -1,11 +1,11 @@
 // Bodies as words, and what a process does with a message.
 #![tactic(auto)]
 
-ghost use Rattle.body.specs.Play.{Room, room, put_var, put_drawn, Lent, letter, plays, Acted, does, does_at, tally_of, answer, lent_after};
+ghost use Rattle.body.specs.Play.{SameLent, room_in, put_line, put_sent, Lent, letter, plays, Acted, does, does_at, tally_of, answer, lent_after};
 ghost use Rattle.meaning.specs.Model.{next_seed, drawn};
 ghost use Rattle.std.specs.Prelude.{◌≡◌, ℕ, ◌<◌, ◌≤◌, length, drop, slice_index, slice_set};
 ghost use Rattle.body.specs.Code.{expr_op, line_op, binary_result, Evaluated, body_of};
-ghost use Rattle.body.specs.Encode.{WordsDecode};
+ghost use Rattle.body.specs.Encode.{OperationsBack, WordsDecode};
 
 use meaning::{Line, Message};
 
@@ -14,7 +14,7 @@ const ROUNDS: u32 = 1000;
 
 const WHOLE: u64 = 4294967296;
 
-#[derive(Clone, Copy)]
+#[derive(Clone, Copy, Debug, PartialEq, Eq)]
 pub enum Binary {
     Plus,
     Minus,
@@ -26,7 +26,7 @@ pub enum Binary {
 }
 
 // How an expression opens.
-#[derive(Clone, Copy)]
+#[derive(Clone, Copy, Debug, PartialEq, Eq)]
 pub enum ExprOp {
     Fixed,
     Var,
@@ -38,7 +38,7 @@ pub enum ExprOp {
 }
 
 // A line with no lines in it.
-#[derive(Clone, Copy)]
+#[derive(Clone, Copy, Debug, PartialEq, Eq)]
 pub enum Act {
     Assign,
     Draw,
@@ -47,7 +47,7 @@ pub enum Act {
 }
 
 // How a line opens.
-#[derive(Clone, Copy)]
+#[derive(Clone, Copy, Debug, PartialEq, Eq)]
 pub enum LineOp {
     Stop,
     Do(Act),
@@ -57,7 +57,7 @@ pub enum LineOp {
 
 // A message that is handled, as its lines see it: what `it`, `me` and `now` are, how many processes there are, and how many messages
 // this one has sent before.
-#[derive(Clone, Copy)]
+#[derive(Clone, Copy, Debug, PartialEq, Eq)]
 pub struct Event {
     pub it: u32,
     pub me: u32,
@@ -67,15 +67,28 @@ pub struct Event {
 }
 
 // The seed, and how many messages were sent and lines said at one event.
-#[derive(Clone, Copy)]
+#[derive(Clone, Copy, Debug, PartialEq, Eq)]
 pub struct Tally {
     pub seed: u32,
     pub sends: u64,
     pub lines: u64,
 }
 
+impl Tally {
+    // Nothing sent or said yet.
+    fn new(seed: u32) -> Self
+        ensures { result ≡ record { seed = seed; sends = 0; lines = 0 } }
+    {
+        Tally {
+            seed,
+            sends: 0,
+            lines: 0,
+        }
+    }
+}
+
 // A process in lent memory, beside its variables: its kind, how many variables it has, its seed, and how many messages it has sent.
-#[derive(Clone, Copy)]
+#[derive(Clone, Copy, Debug, Default, PartialEq, Eq)]
 #[repr(C)]
 pub struct Process {
     pub kind: u32,
@@ -85,37 +98,68 @@ pub struct Process {
 }
 
 // How many messages a process sent and lines it said at one message.
-#[derive(Clone, Copy)]
+#[derive(Clone, Copy, Debug, PartialEq, Eq)]
 pub struct Counts {
     pub sends: usize,
     pub lines: usize,
 }
 
 // Why a message cannot be handled: no place for a message or a line, or the process's count would reach 2^64.
-#[derive(Clone, Copy)]
+#[derive(Clone, Copy, Debug, PartialEq, Eq)]
 pub enum Refusal {
     Sends,
     Lines,
     Count,
 }
 
-fn expr_op(word: u32) -> ExprOp
-    ensures { result ≡ expr_op word }
-{
-    match word {
-        0 => ExprOp::Fixed,
-        1 => ExprOp::Var,
-        2 => ExprOp::It,
-        3 => ExprOp::Me,
-        4 => ExprOp::Clock,
-        5 => ExprOp::Two(Binary::Plus),
-        6 => ExprOp::Two(Binary::Minus),
-        7 => ExprOp::Two(Binary::Times),
-        8 => ExprOp::Two(Binary::Over),
-        9 => ExprOp::Two(Binary::Remains),
-        10 => ExprOp::Two(Binary::Less),
-        11 => ExprOp::Two(Binary::Same),
-        _ => ExprOp::Nothing,
+impl From<u32> for ExprOp {
+    ghost use Rattle.std.specs.Prelude.{◌≡◌};
+    ghost use Rattle.body.specs.Code.{expr_op};
+
+    ghost from_gives = { λ word op. op ≡ expr_op word };
+
+    fn from(word: u32) -> Self {
+        match word {
+            0 => ExprOp::Fixed,
+            1 => ExprOp::Var,
+            2 => ExprOp::It,
+            3 => ExprOp::Me,
+            4 => ExprOp::Clock,
+            5 => ExprOp::Two(Binary::Plus),
+            6 => ExprOp::Two(Binary::Minus),
+            7 => ExprOp::Two(Binary::Times),
+            8 => ExprOp::Two(Binary::Over),
+            9 => ExprOp::Two(Binary::Remains),
+            10 => ExprOp::Two(Binary::Less),
+            11 => ExprOp::Two(Binary::Same),
+            _ => ExprOp::Nothing,
+        }
+    }
+}
+
+// The word that opens an expression so.
+impl From<ExprOp> for u32 {
+    ghost use Rattle.std.specs.Prelude.{◌≡◌};
+    ghost use Rattle.body.specs.Code.{expr_word};
+
+    ghost from_gives = { λ op word. word ≡ expr_word op };
+
+    fn from(op: ExprOp) -> Self {
+        match op {
+            ExprOp::Fixed => 0,
+            ExprOp::Var => 1,
+            ExprOp::It => 2,
+            ExprOp::Me => 3,
+            ExprOp::Clock => 4,
+            ExprOp::Two(Binary::Plus) => 5,
+            ExprOp::Two(Binary::Minus) => 6,
+            ExprOp::Two(Binary::Times) => 7,
+            ExprOp::Two(Binary::Over) => 8,
+            ExprOp::Two(Binary::Remains) => 9,
+            ExprOp::Two(Binary::Less) => 10,
+            ExprOp::Two(Binary::Same) => 11,
+            ExprOp::Nothing => 12,
+        }
     }
 }
 
@@ -139,18 +183,14 @@ fn apply(op: Binary, a: u32, b: u32) -> u32
 fn word(words: &[u32], k: usize) -> u32
     ensures { result ≡ slice_index words.now k }
 {
-    if k < words.len() { words[k] } else { 0 }
+    words.get(k).copied().unwrap_or(0)
 }
 
-// The words behind the first k.
-pub fn skip(words: &[u32], k: usize) -> &[u32]
-    ensures { result.now ≡ drop k words.now }
+// What lies behind the first k.
+pub fn skip<T>(items: &[T], k: usize) -> &[T]
+    ensures { result.now ≡ drop k items.now }
 {
-    if k < words.len() {
-        &words[k..]
-    } else {
-        &words[words.len()..]
-    }
+    items.get(k..).unwrap_or(&[])
 }
 
 // What the expression at the front of the code comes to, and the code behind it.
@@ -161,7 +201,7 @@ fn eval<'a>(code: &'a [u32], fuel: usize, event: Event, vars: &[u32]) -> (u32, &
         return (0, code);
     }
     let rest = skip(code, 1);
-    match expr_op(code[0]) {
+    match ExprOp::from(code[0]) {
         ExprOp::Fixed => (word(rest, 0), skip(rest, 1)),
         ExprOp::Var => (word(vars, word(rest, 0) as usize), skip(rest, 1)),
         ExprOp::It => (event.it, rest),
@@ -178,17 +218,42 @@ fn eval<'a>(code: &'a [u32], fuel: usize, event: Event, vars: &[u32]) -> (u32, &
     }
 }
 
-fn line_op(word: u32) -> LineOp
-    ensures { result ≡ line_op word }
-{
-    match word {
-        1 => LineOp::Do(Act::Assign),
-        2 => LineOp::Do(Act::Draw),
-        3 => LineOp::Do(Act::Say),
-        4 => LineOp::Do(Act::Send),
-        5 => LineOp::Branch,
-        6 => LineOp::Repeat,
-        _ => LineOp::Stop,
+impl From<u32> for LineOp {
+    ghost use Rattle.std.specs.Prelude.{◌≡◌};
+    ghost use Rattle.body.specs.Code.{line_op};
+
+    ghost from_gives = { λ word op. op ≡ line_op word };
+
+    fn from(word: u32) -> Self {
+        match word {
+            1 => LineOp::Do(Act::Assign),
+            2 => LineOp::Do(Act::Draw),
+            3 => LineOp::Do(Act::Say),
+            4 => LineOp::Do(Act::Send),
+            5 => LineOp::Branch,
+            6 => LineOp::Repeat,
+            _ => LineOp::Stop,
+        }
+    }
+}
+
+// The word that opens a line so.
+impl From<LineOp> for u32 {
+    ghost use Rattle.std.specs.Prelude.{◌≡◌};
+    ghost use Rattle.body.specs.Code.{line_word};
+
+    ghost from_gives = { λ op word. word ≡ line_word op };
+
+    fn from(op: LineOp) -> Self {
+        match op {
+            LineOp::Stop => 0,
+            LineOp::Do(Act::Assign) => 1,
+            LineOp::Do(Act::Draw) => 2,
+            LineOp::Do(Act::Say) => 3,
+            LineOp::Do(Act::Send) => 4,
+            LineOp::Branch => 5,
+            LineOp::Repeat => 6,
+        }
     }
 }
 
@@ -229,95 +294,113 @@ fn message_of(event: Event, k: u64, delay: u32, to: u32, number: u32) -> Message
     }
 }
 
-// A line with no lines in it: what it does, and the code behind it.
-fn perform<'a>(
-    op: Act,
-    code: &'a [u32],
-    fuel: usize,
+// Where lines are played: the message at hand, the variables, places for what is sent and said, and how many there were of each.
+#[derive(Drop)]
+struct Frame<'a> {
     event: Event,
-    vars: &mut [u32],
-    tally: &mut Tally,
-    sends: &mut [Message],
-    lines: &mut [Line],
-) -> &'a [u32]
-    ensures { Acted op fuel event code.now (room vars.old tally.old sends.old lines.old) result.now (room vars.new tally.new sends.new lines.new) }
-{
-    match op {
-        Act::Assign => {
-            let (a, behind) = eval(skip(code, 1), fuel, event, vars);
-            place(vars, word(code, 0) as u64, a);
-            behind
-        }
-        Act::Draw => {
-            let (n, behind) = eval(skip(code, 1), fuel, event, vars);
-            tally.seed = next_seed(tally.seed);
-            place(vars, word(code, 0) as u64, drawn_below(tally.seed, n));
-            behind
-        }
-        Act::Say => {
-            let (number, behind) = eval(code, fuel, event, vars);
-            place(
-                lines,
-                tally.lines,
-                Line {
-                    time: event.clock as u64,
-                    process: event.me,
-                    number,
-                },
-            );
-            tally.lines = tally.lines.saturating_add(1);
-            behind
-        }
-        Act::Send => {
-            let (delay, rest) = eval(code, fuel, event, vars);
-            let (to, rest) = eval(rest, fuel, event, vars);
-            let (number, rest) = eval(rest, fuel, event, vars);
-            if to < event.processes {
-                place(
-                    sends,
-                    tally.sends,
-                    message_of(event, tally.sends, delay, to, number),
-                );
-                tally.sends = tally.sends.saturating_add(1);
-            }
-            rest
-        }
-    }
+    vars: &'a mut [u32],
+    tally: Tally,
+    sends: &'a mut [Message],
+    lines: &'a mut [Line],
 }
 
-// The lines at the front of the code, one after the other; fuel falls with each line and each depth.
-fn play(
-    mut code: &[u32],
-    mut fuel: usize,
-    event: Event,
-    vars: &mut [u32],
-    tally: &mut Tally,
-    sends: &mut [Message],
-    lines: &mut [Line],
-)
-    ensures { room vars.new tally.new sends.new lines.new ≡ plays event (body_of fuel code.now) (room vars.old tally.old sends.old lines.old) }
-{
-    while fuel > 0 && !code.is_empty() {
-        let op = line_op(code[0]);
-        let rest = skip(code, 1);
-        fuel -= 1;
+impl Frame<'_> {
+    // What the expression at the front of the code comes to here, and the code behind it.
+    fn eval<'b>(&self, code: &'b [u32], fuel: usize) -> (u32, &'b [u32])
+        ensures { Evaluated self.now.vars.now self.now.event fuel code.now result.0 result.1.now }
+    {
+        eval(code, fuel, self.event, self.vars)
+    }
+
+    // A line of what was said goes into the next place.
+    fn say(&mut self, number: u32)
+        ensures same { SameLent self.old self.new }
+        ensures says { room_in self.new ≡ put_line (record { time = self.old.event.clock; process = self.old.event.me; number = number }) (room_in self.old) }
+    {
+        let line = Line {
+            time: u64::from(self.event.clock),
+            process: self.event.me,
+            number,
+        };
+        place(self.lines, self.tally.lines, line);
+        self.tally.lines = self.tally.lines.saturating_add(1);
+    }
+
+    // A message goes into the next place, or is lost if there is nobody to send it to.
+    fn send(&mut self, delay: u32, to: u32, number: u32)
+        ensures same { SameLent self.old self.new }
+        ensures sends { room_in self.new ≡ put_sent self.old.event delay to number (room_in self.old) }
+    {
+        if to < self.event.processes {
+            let message = message_of(self.event, self.tally.sends, delay, to, number);
+            place(self.sends, self.tally.sends, message);
+            self.tally.sends = self.tally.sends.saturating_add(1);
+        }
+    }
+
+    // A line with no lines in it: what it does, and the code behind it.
+    fn perform<'b>(&mut self, op: Act, code: &'b [u32], fuel: usize) -> &'b [u32]
+        ensures same { SameLent self.old self.new }
+        ensures acts { Acted op fuel self.old.event code.now (room_in self.old) result.now (room_in self.new) }
+    {
         match op {
-            LineOp::Stop => return,
-            LineOp::Do(act) => code = perform(act, rest, fuel, event, vars, tally, sends, lines),
-            LineOp::Branch => {
-                let (x, then) = eval(skip(rest, 2), fuel, event, vars);
-                let otherwise = skip(then, word(rest, 0) as usize);
-                let chosen = if x == 0 { otherwise } else { then };
-                play(chosen, fuel, event, vars, tally, sends, lines);
-                code = skip(otherwise, word(rest, 1) as usize);
+            Act::Assign => {
+                let (value, behind) = self.eval(skip(code, 1), fuel);
+                place(self.vars, u64::from(word(code, 0)), value);
+                behind
             }
-            LineOp::Repeat => {
-                let (x, body) = eval(skip(rest, 1), fuel, event, vars);
-                let turns = x.min(ROUNDS);
-                for _turn in 0..turns {
-                    play(body, fuel, event, vars, tally, sends, lines);
+            Act::Draw => {
+                let (n, behind) = self.eval(skip(code, 1), fuel);
+                self.tally.seed = next_seed(self.tally.seed);
+                place(
+                    self.vars,
+                    u64::from(word(code, 0)),
+                    drawn_below(self.tally.seed, n),
+                );
+                behind
+            }
+            Act::Say => {
+                let (number, behind) = self.eval(code, fuel);
+                self.say(number);
+                behind
+            }
+            Act::Send => {
+                let (delay, rest) = self.eval(code, fuel);
+                let (to, rest) = self.eval(rest, fuel);
+                let (number, rest) = self.eval(rest, fuel);
+                self.send(delay, to, number);
+                rest
+            }
+        }
+    }
+
+    // The lines at the front of the code, one after the other; fuel falls with each line and each depth.
+    fn play(&mut self, mut code: &[u32], fuel: usize)
+        ensures same { SameLent self.old self.new }
+        ensures plays { room_in self.new ≡ plays self.old.event (body_of fuel code.now) (room_in self.old) }
+    {
+        for left in (0..fuel).rev() {
+            let Some((first, rest)) = code.split_first() else {
+                return;
+            };
+            match LineOp::from(*first) {
+                LineOp::Stop => return,
+                LineOp::Do(act) => code = self.perform(act, rest, left),
+                LineOp::Branch => {
+                    let (x, then) = self.eval(skip(rest, 2), left);
+                    let otherwise = skip(then, word(rest, 0) as usize);
+                    let chosen = if x == 0 { otherwise } else { then };
+                    self.play(chosen, left);
+                    code = skip(otherwise, word(rest, 1) as usize);
                 }
-                code = skip(body, word(rest, 0) as usize);
+                LineOp::Repeat => {
+                    let (x, body) = self.eval(skip(rest, 1), left);
+                    let turns = x.min(ROUNDS);
+                    for _turn in 0..turns {
+                        self.play(body, left);
+                    }
+                    code = skip(body, word(rest, 0) as usize);
+                }
             }
         }
     }
@@ -329,15 +412,17 @@ fn measure(code: &[u32], event: Event, seed: u32, vars: &[u32]) -> Tally
     ensures { result ≡ tally_of (does_at event code.now seed vars.now) }
 {
     let mut copy = [0u32; 64];
-    let mut tally = Tally {
-        seed,
-        sends: 0,
-        lines: 0,
-    };
     let part = &mut copy[0..vars.len()];
     part.copy_from_slice(vars);
-    play(code, code.len(), event, part, &mut tally, &mut [], &mut []);
-    tally
+    let mut frame = Frame {
+        event,
+        vars: part,
+        tally: Tally::new(seed),
+        sends: &mut [],
+        lines: &mut [],
+    };
+    frame.play(code, code.len());
+    frame.tally
 }
 
 // What the process does with a message. In a refusal nothing lent has changed.
@@ -372,12 +457,15 @@ pub fn handle(
     if need.sends > u64::MAX - process.sent {
         return Err(Refusal::Count);
     }
-    let mut tally = Tally {
-        seed: process.seed,
-        sends: 0,
-        lines: 0,
+    let mut frame = Frame {
+        event,
+        vars,
+        tally: Tally::new(process.seed),
+        sends,
+        lines,
     };
-    play(code, code.len(), event, vars, &mut tally, sends, lines);
+    frame.play(code, code.len());
+    let tally = frame.tally;
     process.seed = tally.seed;
     process.sent += tally.sends;
     Ok(Counts {
@@ -389,4 +477,9 @@ pub fn handle(
 // The words of lines stand for those lines, whatever stands behind them.
 pub fn words_decode()
     ensures { WordsDecode }
+{}
+
+// The word of each operation opens just that operation.
+pub fn operations_back()
+    ensures { OperationsBack }
 {}

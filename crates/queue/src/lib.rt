@@ -17,25 +17,14 @@ pub struct Full;
 pub fn is_before(a: Message, b: Message) -> bool
     ensures { result ≡ before a b }
 {
-    if a.time != b.time {
-        a.time < b.time
-    } else if a.to != b.to {
-        a.to < b.to
-    } else if a.from != b.from {
-        a.from < b.from
-    } else {
-        a.count < b.count
-    }
+    (a.time, a.to, a.from, a.count) < (b.time, b.to, b.from, b.count)
 }
 
 // The first to be handled.
 pub fn first(row: &[Message], len: usize) -> Option<Message>
     ensures { result ≡ first_of row.now len }
 {
-    if len == 0 || len > row.len() {
-        return None;
-    }
-    Some(row[len - 1])
+    row.get(..len)?.last().copied()
 }
 
 // The first to be handled, which then waits no more.
@@ -53,21 +42,21 @@ pub fn take_first(row: &[Message], len: &mut usize) -> Option<Message>
     Some(x)
 }
 
-// Puts m in where it belongs; the row has a place for it.
+// Puts m in where it belongs; the row has a place for it. Looking for the place and then moving the others by `copy_within` takes
+// twice as long as this one pass.
 fn place(row: &mut [Message], len: usize, m: Message)
     requires { len < length row.old }
     ensures { Inserted m row.old len row.new (len + 1) }
 {
-    let mut at = len;
-    while at > 0 {
-        let other = row[at - 1];
+    for at in (0..len).rev() {
+        let other = row[at];
         if is_before(m, other) {
-            break;
+            row[at + 1] = m;
+            return;
         }
-        row[at] = other;
-        at -= 1;
+        row[at + 1] = other;
     }
-    row[at] = m;
+    row[0] = m;
 }
 
 // Puts m in where it belongs, unless the row is full.

@@ -4,10 +4,11 @@ use Rattle.std.proofs.lemmas.Bool.{and_parts, and_from, leb-true, le-leb}
 use Rattle.meaning.specs.declared.Message.{Message}
 use Rattle.meaning.specs.Model.{step, steps}
 use Rattle.meaning.proofs.Runs.{steps_add}
+use Rattle.sequential.specs.declared.Lent.{Lent}
 use Rattle.sequential.specs.declared.Report.{Report}
 use Rattle.sequential.specs.declared.Outcome.{Outcome}
 use Rattle.sequential.specs.declared.Outcome.TheVariants.{Paused, Short}
-use Rattle.sequential.specs.Memory.{Memory, state_of, model_of, shaped, Shaped, stops, Stepped, RunIn, NotRun}
+use Rattle.sequential.specs.Memory.{Memory, state_of, model_of, shaped, Shaped, stops, Stepped, RunIn, NotRun, SameLent}
 
 pub shaped_facts : (y : Memory) (n : ℕ) → shaped y n ≡ true → Shaped y n
 shaped_facts y n h =
@@ -93,3 +94,20 @@ pub steps_only : (b : Bool) (code kinds : List ℕ) (end budget sends : ℕ) (y 
     MatchBool b ((o : Outcome) × RunIn code kinds end budget sends y (record { outcome = o; steps = r.steps }) y') (NotRun y S (record { outcome = Short; steps = r.steps }) y' S')
 steps_only true code kinds end budget sends y S r y' S' h = (r.outcome, h)
 steps_only false code kinds end budget sends y S r y' S' h = record { refused = ap (λ q. record { outcome = Short; steps = q.steps }) h.refused; same = h.same; same_sends = h.same_sends }
+
+-- What is lent stays the same through no step, and through two that keep it.
+pub same_at_first : (l : Lent) → SameLent l l
+same_at_first l =
+    record { processes = refl; vars = refl; row = refl; lines = refl; progress = refl; row_places = refl; line_places = refl }
+
+pub same_then : {k l m : Lent} → SameLent k l → SameLent l m → SameLent k m
+same_then s t =
+    record {
+      processes = t.processes ∙ s.processes;
+      vars = t.vars ∙ s.vars;
+      row = t.row ∙ s.row;
+      lines = t.lines ∙ s.lines;
+      progress = t.progress ∙ s.progress;
+      row_places = t.row_places ∙ s.row_places;
+      line_places = t.line_places ∙ s.line_places;
+    }

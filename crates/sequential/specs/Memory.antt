@@ -9,6 +9,7 @@ use Rattle.body.specs.declared.Refusal.{Refusal}
 use Rattle.body.specs.Code.{body_of}
 use Rattle.body.specs.Play.{top, filled}
 use Rattle.queue.specs.Row.{waiting}
+use Rattle.sequential.specs.declared.Lent.{Lent}
 use Rattle.sequential.specs.declared.Progress.{Progress}
 use Rattle.sequential.specs.declared.Report.{Report}
 use Rattle.sequential.specs.declared.Unready.{Unready}
@@ -70,6 +71,20 @@ pub record Memory : Type 0 where
 -- What is lent, slice by slice.
 abbrev pub memory : List Process → List ℕ → List Message → List Line → Progress → Memory
 memory ps vs row lines g = record { processes = ps; vars = vs; row = row; lines = lines; progress = g }
+
+-- What is lent, where it is lent as one.
+abbrev pub memory_in : Lent → Memory
+memory_in l = memory l.processes.now l.vars.now l.row.now l.lines.now l.progress.now
+
+-- The same lent slices, as long as they were, whatever they hold.
+pub record SameLent (l l' : Lent) : Type 0 where
+  pub processes : l'.processes.ghost_name ≡ l.processes.ghost_name
+  pub vars : l'.vars.ghost_name ≡ l.vars.ghost_name
+  pub row : l'.row.ghost_name ≡ l.row.ghost_name
+  pub lines : l'.lines.ghost_name ≡ l.lines.ghost_name
+  pub progress : l'.progress.ghost_name ≡ l.progress.ghost_name
+  pub row_places : length l'.row.now ≡ length l.row.now
+  pub line_places : length l'.lines.now ≡ length l.lines.now
 
 -- The state that lent memory stands for.
 abbrev pub state_of : Memory → State

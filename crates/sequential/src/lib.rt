@@ -3,8 +3,9 @@
 
 ghost use Rattle.std.specs.Prelude.{◌≡◌, ℕ, ◌*◌, ◌<◌, ◌≤◌, min, List, length, MatchBool, MatchOption, MatchResult};
 ghost use Rattle.body.specs.Play.{answer};
-ghost use Rattle.sequential.specs.Memory.{RowInOrder, Begun, Unbegun, unready, started, code_of, done_in, Did, Untouched, Memory, memory, Shaped, Stepped, RunIn, NotRun, model_of, state_of, shaped, stops, outcome_of};
+ghost use Rattle.sequential.specs.Memory.{RowInOrder, Begun, Unbegun, unready, started, code_of, done_in, Did, Untouched, SameLent, memory_in, Shaped, Stepped, RunIn, NotRun, model_of, state_of, shaped, stops, outcome_of};
 ghost use Rattle.std.specs.Result.{result_err};
+ghost use Rattle.queue.specs.Row.{Taken, Untaken};
 
 use body::{Counts, Process, Refusal, handle, next_seed, skip};
 use meaning::{Line, Message};
@@ -17,7 +18,7 @@ const PROCESSES: usize = 65536;
 const WIDTH: usize = 64;
 
 // How far a run has come: how many messages wait in the row, and how many lines were said.
-#[derive(Clone, Copy)]
+#[derive(Clone, Copy, Debug, Default, PartialEq, Eq)]
 #[repr(C)]
 pub struct Progress {
     pub waiting: usize,
@@ -45,7 +46,7 @@ pub enum Unready {
 }
 
 // How a run ended, and after how many steps.
-#[derive(Clone, Copy)]
+#[derive(Clone, Copy, Debug, PartialEq, Eq)]
 pub struct Report {
     pub outcome: Outcome,
     pub steps: u64,
@@ -60,15 +61,9 @@ fn start_all(processes: &mut [Process], luck: u32)
     requires few { length processes.old ≤ 65536 }
     ensures { processes.new ≡ started luck 0 processes.old }
 {
-    for k in 0..processes.len() {
-        let seed = next_seed(next_seed(luck + k as u32));
-        let p = processes[k];
-        processes[k] = Process {
-            kind: p.kind,
-            width: p.width,
-            seed,
-            sent: 0,
-        };
+    for (k, process) in processes.iter_mut().enumerate() {
+        process.seed = next_seed(next_seed(luck + k as u32));
+        process.sent = 0;
     }
 }
 
@@ -101,15 +96,22 @@ pub fn begin(
     Ok(())
 }
 
-// The code of a kind: kinds has where each begins.
-fn code_of<'a>(code: &'a [u32], kinds: &[u32], kind: u32) -> &'a [u32]
-    ensures { result.now ≡ code_of code.now kinds.now kind }
-{
-    let k = kind as usize;
-    if k < kinds.len() {
-        skip(code, kinds[k] as usize)
-    } else {
-        skip(code, code.len())
+// What a run is played from: the words of all kinds, and where those of each kind begin.
+#[derive(Clone, Copy)]
+pub struct Program<'a> {
+    pub code: &'a [u32],
+    pub kinds: &'a [u32],
+}
+
+impl<'a> Program<'a> {
+    // The code of a kind.
+    fn code_of(self, kind: u32) -> &'a [u32]
+        ensures { result.now ≡ code_of self.entry.code.now self.entry.kinds.now kind }
+    {
+        match self.kinds.get(kind as usize) {
+            Some(start) => skip(self.code, *start as usize),
+            None => &[],
+        }
     }
 }
 
@@ -122,8 +124,7 @@ fn width_of(process: Process) -> usize
 
 // What the process that m is for does with it; where there is no such process, nobody does it. In a refusal nothing lent has changed.
 fn handle_in(
-    code: &[u32],
-    kinds: &[u32],
+    program: Program<'_>,
     processes: &mut [Process],
     vars: &mut [u32],
     m: Message,
@@ -133,23 +134,18 @@ fn handle_in(
     requires few { length processes.old ≤ 65536 }
     requires wide { 64 * length processes.old ≤ length vars.old }
     requires timely { m.time < 4294967296 }
-    ensures answers { result ≡ answer (done_in code.now kinds.now processes.old vars.old m) (length sends.old) (length lines.old) }
+    ensures answers { result ≡ answer (done_in program.entry.code.now program.entry.kinds.now processes.old vars.old m) (length sends.old) (length lines.old) }
     ensures holds { MatchResult result
-        (λ _. Did code.now kinds.now m processes.old vars.old sends.old lines.old processes.new vars.new sends.new lines.new)
+        (λ _. Did program.entry.code.now program.entry.kinds.now m processes.old vars.old sends.old lines.old processes.new vars.new sends.new lines.new)
         (λ _. Untouched processes.old vars.old sends.old lines.old processes.new vars.new sends.new lines.new) }
 {
     let k = m.to as usize;
-    let count = processes.len();
-    if k >= count {
-        let mut nobody = Process {
-            kind: 0,
-            width: 0,
-            seed: 0,
-            sent: 0,
-        };
+    let count = processes.len() as u32;
+    if k >= processes.len() {
+        let mut nobody = Process::default();
         return handle(
-            code_of(code, kinds, 0),
-            count as u32,
+            program.code_of(0),
+            count,
             &mut nobody,
             &mut [],
             m,
@@ -159,12 +155,12 @@ fn handle_in(
     }
     let mut process = processes[k];
     let from = k * WIDTH;
-    let to = from + width_of(process);
+    let own = &mut vars[from..from + width_of(process)];
     let done = handle(
-        code_of(code, kinds, process.kind),
-        count as u32,
+        program.code_of(process.kind),
+        count,
         &mut process,
-        &mut vars[from..to],
+        own,
         m,
         sends,
         lines,
@@ -185,134 +181,110 @@ fn outcome_of(refusal: Refusal, said: usize) -> Outcome
     }
 }
 
-// One step of the meaning, or why the run stops here.
-fn step(
-    code: &[u32],
-    kinds: &[u32],
-    processes: &mut [Process],
-    vars: &mut [u32],
-    row: &mut [Message],
-    sends: &mut [Message],
-    lines: &mut [Line],
-    progress: &mut Progress,
-    end: u32,
-) -> Option<Outcome>
-    requires { Shaped (memory processes.old vars.old row.old lines.old progress.old) (length sends.old) }
-    ensures answers { (ns : List (List ℕ)) → result ≡ stops (model_of code.now kinds.now processes.old ns) end (length row.old) (length lines.old) (state_of (memory processes.old vars.old row.old lines.old progress.old)) }
-    ensures holds { MatchOption result
-        (Stepped code.now kinds.now end (length sends.old) (memory processes.old vars.old row.old lines.old progress.old) (memory processes.new vars.new row.new lines.new progress.new))
-        (λ _. ◌≡◌ {A = Memory} (memory processes.new vars.new row.new lines.new progress.new) (memory processes.old vars.old row.old lines.old progress.old)) }
-{
-    let mut waiting = progress.waiting;
-    let Some(m) = take_first(row, &mut waiting) else {
-        return Some(Outcome::Ended);
-    };
-    if m.time >= end as u64 {
-        return Some(Outcome::Ended);
-    }
-    let places = row.len() - waiting;
-    let said = progress.said;
-    match handle_in(
-        code,
-        kinds,
-        processes,
-        vars,
-        m,
-        &mut sends[0..places],
-        &mut lines[said..],
-    ) {
-        Ok(counts) => {
-            let sent = counts.sends;
-            let _ = insert_all(row, &mut waiting, &sends[0..sent]);
-            *progress = Progress {
-                waiting,
-                said: said + counts.lines,
-            };
-            None
-        }
-        Err(refusal) => Some(outcome_of(refusal, said)),
-    }
+// What is lent for a run and changes: processes and their variables, the row of waiting messages, lines, and how far the run has come.
+#[derive(Drop)]
+pub struct Lent<'a> {
+    pub processes: &'a mut [Process],
+    pub vars: &'a mut [u32],
+    pub row: &'a mut [Message],
+    pub lines: &'a mut [Line],
+    pub progress: &'a mut Progress,
 }
 
-// Whether the lent slices are long enough for the processes and for what is in use.
-fn is_shaped(
-    processes: &[Process],
-    vars: &[u32],
-    row: &[Message],
-    sends: &[Message],
-    lines: &[Line],
-    progress: Progress,
-) -> bool
-    ensures { result ≡ shaped (memory processes.now vars.now row.now lines.now progress) (length sends.now) }
-{
-    let count = processes.len();
-    count <= PROCESSES
-        && WIDTH * count <= vars.len()
-        && row.len() <= sends.len()
-        && progress.waiting <= row.len()
-        && progress.said <= lines.len()
-}
+impl Lent<'_> {
+    // Whether the lent slices are long enough for the processes and for what is in use, and so many places for what one message sends.
+    fn is_shaped(&self, places: usize) -> bool
+        ensures { result ≡ shaped (memory_in self.now) places }
+    {
+        let count = self.processes.len();
+        count <= PROCESSES
+            && WIDTH * count <= self.vars.len()
+            && self.row.len() <= places
+            && self.progress.waiting <= self.row.len()
+            && self.progress.said <= self.lines.len()
+    }
 
-// A run of at most budget steps: it stops where nothing is left before the end or the next message cannot be handled. What sends holds
-// after a run that was not refused is not promised, nor what stands in places that are not in use.
-pub fn run(
-    code: &[u32],
-    kinds: &[u32],
-    processes: &mut [Process],
-    vars: &mut [u32],
-    row: &mut [Message],
-    sends: &mut [Message],
-    lines: &mut [Line],
-    progress: &mut Progress,
-    end: u32,
-    budget: u64,
-) -> Report
-    ensures { MatchBool (shaped (memory processes.old vars.old row.old lines.old progress.old) (length sends.old))
-        (RunIn code.now kinds.now end budget (length sends.old) (memory processes.old vars.old row.old lines.old progress.old) result (memory processes.new vars.new row.new lines.new progress.new))
-        (NotRun (memory processes.old vars.old row.old lines.old progress.old) sends.old result (memory processes.new vars.new row.new lines.new progress.new) sends.new) }
-{
-    if !is_shaped(processes, vars, row, sends, lines, *progress) {
-        return Report {
-            outcome: Outcome::Short,
-            steps: 0,
+    // The first to be handled, and how many would wait without it.
+    fn next(&self) -> Option<(Message, usize)>
+        ensures { MatchOption result
+            (Untaken self.now.row.now self.now.progress.now.waiting self.now.progress.now.waiting)
+            (λ x. Taken x.0 self.now.row.now self.now.progress.now.waiting x.1) }
+    {
+        let mut waiting = self.progress.waiting;
+        let m = take_first(self.row, &mut waiting)?;
+        Some((m, waiting))
+    }
+
+    // One step of the meaning, or why the run stops here.
+    fn step(&mut self, program: Program<'_>, sends: &mut [Message], end: u32) -> Option<Outcome>
+        requires { Shaped (memory_in self.old) (length sends.old) }
+        ensures same { SameLent self.old self.new }
+        ensures answers { (ns : List (List ℕ)) → result ≡ stops (model_of program.entry.code.now program.entry.kinds.now self.old.processes.now ns) end (length self.old.row.now) (length self.old.lines.now) (state_of (memory_in self.old)) }
+        ensures holds { MatchOption result
+            (Stepped program.entry.code.now program.entry.kinds.now end (length sends.old) (memory_in self.old) (memory_in self.new))
+            (λ _. memory_in self.new ≡ memory_in self.old) }
+    {
+        let Some((m, mut waiting)) = self.next() else {
+            return Some(Outcome::Ended);
         };
-    }
-    let mut steps = 0;
-    while steps < budget {
-        if let Some(outcome) = step(
-            code, kinds, processes, vars, row, sends, lines, progress, end,
-        ) {
-            return Report { outcome, steps };
+        if m.time >= u64::from(end) {
+            return Some(Outcome::Ended);
         }
-        steps += 1;
+        let places = self.row.len() - waiting;
+        let said = self.progress.said;
+        let processes = &mut *self.processes;
+        let vars = &mut *self.vars;
+        let lines = &mut *self.lines;
+        match handle_in(
+            program,
+            processes,
+            vars,
+            m,
+            &mut sends[..places],
+            &mut lines[said..],
+        ) {
+            Ok(counts) => {
+                let _ = insert_all(self.row, &mut waiting, &sends[..counts.sends]);
+                *self.progress = Progress {
+                    waiting,
+                    said: said + counts.lines,
+                };
+                None
+            }
+            Err(refusal) => Some(outcome_of(refusal, said)),
+        }
     }
-    Report {
-        outcome: Outcome::Paused,
-        steps,
-    }
-}
 
-// The same, with only how many steps were done; `sequential_c` has it for callers in C.
-pub fn sequential_run(
-    code: &[u32],
-    kinds: &[u32],
-    processes: &mut [Process],
-    vars: &mut [u32],
-    row: &mut [Message],
-    sends: &mut [Message],
-    lines: &mut [Line],
-    progress: &mut Progress,
-    end: u32,
-    budget: u64,
-) -> u64
-    ensures { MatchBool (shaped (memory processes.old vars.old row.old lines.old progress.old) (length sends.old))
-        ((o : Outcome) × RunIn code.now kinds.now end budget (length sends.old) (memory processes.old vars.old row.old lines.old progress.old) (record { outcome = o; steps = result }) (memory processes.new vars.new row.new lines.new progress.new))
-        (NotRun (memory processes.old vars.old row.old lines.old progress.old) sends.old (record { outcome = Outcome.Short; steps = result }) (memory processes.new vars.new row.new lines.new progress.new) sends.new) }
-{
-    run(
-        code, kinds, processes, vars, row, sends, lines, progress, end, budget,
-    )
-    .steps
+    // A run of at most budget steps: it stops where nothing is left before the end or the next message cannot be handled. What sends holds
+    // after a run that was not refused is not promised, nor what stands in places that are not in use.
+    pub fn run(
+        &mut self,
+        program: Program<'_>,
+        sends: &mut [Message],
+        end: u32,
+        budget: u64,
+    ) -> Report
+        ensures same { SameLent self.old self.new }
+        ensures runs { MatchBool (shaped (memory_in self.old) (length sends.old))
+            (RunIn program.entry.code.now program.entry.kinds.now end budget (length sends.old) (memory_in self.old) result (memory_in self.new))
+            (NotRun (memory_in self.old) sends.old result (memory_in self.new) sends.new) }
+    {
+        if !self.is_shaped(sends.len()) {
+            return Report {
+                outcome: Outcome::Short,
+                steps: 0,
+            };
+        }
+        for steps in 0..budget {
+            if let Some(outcome) = self.step(program, sends, end) {
+                return Report { outcome, steps };
+            }
+        }
+        Report {
+            outcome: Outcome::Paused,
+            steps: budget,
+        }
+    }
 }
 
 // In the row in lent memory messages wait in their order, and no two are the same.

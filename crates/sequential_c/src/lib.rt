@@ -8,7 +8,7 @@ ghost use Rattle.sequential.specs.declared.Outcome.TheVariants as Outcome;
 
 use body::Process;
 use meaning::{Line, Message};
-use sequential::Progress;
+use sequential::{Lent, Program, Progress};
 
 // Plays on from what the lent slices hold, at most so many messages, and says how many were handled.
 #[unsafe(no_mangle)]
@@ -28,7 +28,13 @@ pub extern "C" fn sequential_run(
         ((o : Outcome) × RunIn code.now kinds.now end budget (length sends.old) (memory processes.old vars.old row.old lines.old progress.old) (record { outcome = o; steps = result }) (memory processes.new vars.new row.new lines.new progress.new))
         (NotRun (memory processes.old vars.old row.old lines.old progress.old) sends.old (record { outcome = Outcome.Short; steps = result }) (memory processes.new vars.new row.new lines.new progress.new) sends.new) }
 {
-    sequential::sequential_run(
-        code, kinds, processes, vars, row, sends, lines, progress, end, budget,
-    )
+    let program = Program { code, kinds };
+    let mut lent = Lent {
+        processes,
+        vars,
+        row,
+        lines,
+        progress,
+    };
+    lent.run(program, sends, end, budget).steps
 }

@@ -31,15 +31,7 @@ fn refused(heap: Global, refusal: Refusal) -> Result<String, AllocError> {
 // A model written as a text; a text written anew is at most as long as it was.
 fn written(heap: Global, stage: &Stage, most: usize) -> Result<Vec<u8>, AllocError> {
     let mut out = vec![in heap; 0u8; most]?;
-    let count = match write(
-        stage.code.as_slice(),
-        stage.kinds.as_slice(),
-        stage.names.as_slice(),
-        stage.processes.as_slice(),
-        stage.vars.as_slice(),
-        stage.messages.as_slice(),
-        out.as_mut_slice(),
-    ) {
+    let count = match write(stage.model(), out.as_mut_slice()) {
         Ok(count) => count,
         Err(_) => 0,
     };

@@ -1,7 +1,6 @@
 -- What is written of lines, by how the first opens.
-use Rattle.std.proofs.Common.{◌≡◌, ℕ, zero, suc, ◌-◌, ◌<◌, ◌≤◌, true, false, eqb, ◌⊎◌, List, [], ◌∷◌, ◌++◌, map, length, get_or, drop, codes, Option, sym, refl, ap, ◌∙◌, subst, inl, inr, sub-one, arith}
-use Rattle.std.proofs.lemmas.Bool.{eqb-true}
-use Rattle.body.specs.declared.Act.{Act}
+use Rattle.std.proofs.Common.{◌≡◌, ℕ, zero, suc, ◌-◌, ◌<◌, true, false, eqb, ◌⊎◌, List, [], ◌∷◌, ◌++◌, map, length, get_or, drop, codes, sym, refl, ap, ◌∙◌, subst, inl, inr, sub-one, arith}
+use Rattle.std.proofs.lemmas.Bool.{both_ways}
 use Rattle.body.specs.declared.Act.TheVariants.{Assign, Draw, Say, Send}
 use Rattle.body.specs.declared.LineOp.{LineOp}
 use Rattle.body.specs.declared.LineOp.TheVariants.{Stop, Do, Branch, Repeat}
@@ -11,23 +10,27 @@ use Rattle.checker.specs.Words.{unpack}
 use Rattle.grammar.specs.Syntax as text
 use Rattle.grammar.specs.Syntax.{Term, Lines, show_term, show_lines, newline}
 use Rattle.text.specs.Named.{term, lines, branched}
-use Rattle.text.specs.Written.{Writes, Ahead, Wrote, Acted, else_head, term_bytes, lines_bytes}
-use Rattle.text.proofs.Spills.{writes_both, told, told_at, before, ahead_of}
-use Rattle.text.proofs.Terms.{some_left, name_of}
+use Rattle.text.specs.Written.{else_head, term_bytes, lines_bytes, opened_bytes}
+use Rattle.text.proofs.Terms.{name_of}
 
-body_step : (n : ℕ) (ws : List ℕ) → 0 < n → 0 < length ws → body_of n ws ≡ body_by (line_op (get_or ws 0 0)) (expr_of (n - 1)) (body_of (n - 1)) (drop 1 ws)
+body_step : (n : ℕ) (ws : List ℕ) (w : ℕ) (tail : List ℕ) → 0 < n → ws ≡ w ∷ tail → body_of n ws ≡ body_by (line_op w) (expr_of (n - 1)) (body_of (n - 1)) tail
 unfolding body_of
-body_step zero ws h k = absurd (omega arith)
-body_step (suc n) [] h k = absurd (omega arith)
-body_step (suc n) (w ∷ ws) h k = rw sub-one refl
+body_step zero ws w tail h e = absurd (omega arith)
+body_step (suc n) [] w tail h e = cc
+body_step (suc n) (v ∷ ws) w tail h e = ap (λ x. body_of (suc n) x) e ∙ rw sub-one refl
+
+-- Some words are a first and those behind it.
+pub front_of : (ws : List ℕ) → false ≡ eqb (length ws) 0 → ws ≡ get_or ws 0 0 ∷ drop 1 ws
+front_of [] e = absurd (both_ways true (sym e) refl)
+front_of (w ∷ ws) e = refl
 
 -- Where no word is left there are no lines.
-pub no_body : (n : ℕ) (ws : List ℕ) → (n ≤ 0) ⊎ (true ≡ eqb (length ws) 0) → body_of n ws ≡ stop
+pub no_body : (n : ℕ) (ws : List ℕ) → (n ≡ 0) ⊎ (length ws ≡ 0) → body_of n ws ≡ stop
 unfolding body_of
 no_body zero ws h = refl
 no_body (suc n) [] h = refl
-no_body (suc n) (w ∷ ws) (inl h) = absurd (omega arith)
-no_body (suc n) (w ∷ ws) (inr h) = absurd (omega (arith, eqb-true (length (w ∷ ws)) 0 (sym h)))
+no_body (suc n) (w ∷ ws) (inl h) = absurd (omega (arith, h))
+no_body (suc n) (w ∷ ws) (inr h) = absurd (omega (arith, h))
 
 pub no_lines : (names : List ℕ) (b : Body) → b ≡ stop → show_lines (lines (map unpack names) b) ≡ []
 unfolding lines show_lines
@@ -86,75 +89,78 @@ show_branch ns e b c rest =
     show_branched (term ns e) (lines ns b) (lines ns c) (lines ns rest)
     ∙ ap (λ h. codes "if " ++ (show_term (term ns e) ++ (newline ++ (show_lines (lines ns b) ++ (h ++ (show_lines (lines ns c) ++ (codes "end\n" ++ show_lines (lines ns rest)))))))) (head_lines ns c)
 
--- A line with no lines in it, whose words are ws.
-module _ (names : List ℕ) (n : ℕ) (ws : List ℕ) {at : Option ℕ} {limit : ℕ} {o : List ℕ} where
-  pub act_assign : {v behind o₁ o₂ o₃ o₄ : List ℕ} {p₁ p₂ p₃ p₄ : Option ℕ} {k p : ℕ} → k ≡ get_or ws 0 0 → p ≡ get_or names k 0 → v ≡ drop 1 ws →
-      Writes (unpack p) at limit o o₁ p₁ → Writes (codes " = ") p₁ limit o₁ o₂ p₂ → Wrote names n v p₂ limit o₂ o₃ p₃ behind →
-      Writes newline p₃ limit o₃ o₄ p₄ → Acted names Assign n ws at limit o o₄ p₄ behind
+-- The bytes of lines, by how the first opens; ws stands behind its first word, and rest is what its last expression or its lines leave.
+module _ (names : List ℕ) (n : ℕ) (ws : List ℕ) where
+  pub assign_bytes : {v rest : List ℕ} {k p : ℕ} → k ≡ get_or ws 0 0 → p ≡ get_or names k 0 → v ≡ drop 1 ws → rest ≡ (expr_of n v).rest →
+      opened_bytes names (Do Assign) n ws ≡ unpack p ++ (codes " = " ++ (term_bytes names n v ++ (newline ++ lines_bytes names n rest)))
   unfolding lines show_lines
-  act_assign {p₃} {p₄} h g e w₁ w₂ w₃ w₄ =
-      record {
-        then = λ o₅ s v.
-            writes_both (told (ap unpack g ∙ ap (λ j. unpack (get_or names j 0)) h ∙ name_of names (get_or ws 0 0)) w₁)
-            (writes_both w₂ (writes_both (told (ap (λ x. term_bytes names n x) e) w₃.writes)
-            (writes_both w₄ (told_at (λ k q. let x = before w₄ k q in ap (λ y. lines_bytes names n y) (w₃.rest_is x.0 x.1 ∙ ap (λ y. (expr_of n y).rest) e)) v))));
-      }
+  assign_bytes {v} {rest} {k} {p} h g e f =
+      let q : get_or (map unpack names) (get_or ws 0 0) [] ≡ unpack p = sym (ap unpack g ∙ ap (λ j. unpack (get_or names j 0)) h ∙ name_of names (get_or ws 0 0)) in
+      let r : rest ≡ (expr_of n (drop 1 ws)).rest = cc in
+      ap (λ x. x ++ (codes " = " ++ (term_bytes names n (drop 1 ws) ++ (newline ++ lines_bytes names n (expr_of n (drop 1 ws)).rest)))) q
+      ∙ ap (λ x. unpack p ++ (codes " = " ++ (term_bytes names n x ++ (newline ++ lines_bytes names n (expr_of n (drop 1 ws)).rest)))) (sym e)
+      ∙ ap (λ x. unpack p ++ (codes " = " ++ (term_bytes names n v ++ (newline ++ lines_bytes names n x)))) (sym r)
 
-  pub act_draw : {v behind o₁ o₂ o₃ o₄ : List ℕ} {p₁ p₂ p₃ p₄ : Option ℕ} {k p : ℕ} → k ≡ get_or ws 0 0 → p ≡ get_or names k 0 → v ≡ drop 1 ws →
-      Writes (unpack p) at limit o o₁ p₁ → Writes (codes " = draw ") p₁ limit o₁ o₂ p₂ → Wrote names n v p₂ limit o₂ o₃ p₃ behind →
-      Writes newline p₃ limit o₃ o₄ p₄ → Acted names Draw n ws at limit o o₄ p₄ behind
+  pub draw_bytes : {v rest : List ℕ} {k p : ℕ} → k ≡ get_or ws 0 0 → p ≡ get_or names k 0 → v ≡ drop 1 ws → rest ≡ (expr_of n v).rest →
+      opened_bytes names (Do Draw) n ws ≡ unpack p ++ (codes " = draw " ++ (term_bytes names n v ++ (newline ++ lines_bytes names n rest)))
   unfolding lines show_lines
-  act_draw {p₃} {p₄} h g e w₁ w₂ w₃ w₄ =
-      record {
-        then = λ o₅ s v.
-            writes_both (told (ap unpack g ∙ ap (λ j. unpack (get_or names j 0)) h ∙ name_of names (get_or ws 0 0)) w₁)
-            (writes_both w₂ (writes_both (told (ap (λ x. term_bytes names n x) e) w₃.writes)
-            (writes_both w₄ (told_at (λ k q. let x = before w₄ k q in ap (λ y. lines_bytes names n y) (w₃.rest_is x.0 x.1 ∙ ap (λ y. (expr_of n y).rest) e)) v))));
-      }
+  draw_bytes {v} {rest} {k} {p} h g e f =
+      let q : get_or (map unpack names) (get_or ws 0 0) [] ≡ unpack p = sym (ap unpack g ∙ ap (λ j. unpack (get_or names j 0)) h ∙ name_of names (get_or ws 0 0)) in
+      let r : rest ≡ (expr_of n (drop 1 ws)).rest = cc in
+      ap (λ x. x ++ (codes " = draw " ++ (term_bytes names n (drop 1 ws) ++ (newline ++ lines_bytes names n (expr_of n (drop 1 ws)).rest)))) q
+      ∙ ap (λ x. unpack p ++ (codes " = draw " ++ (term_bytes names n x ++ (newline ++ lines_bytes names n (expr_of n (drop 1 ws)).rest)))) (sym e)
+      ∙ ap (λ x. unpack p ++ (codes " = draw " ++ (term_bytes names n v ++ (newline ++ lines_bytes names n x)))) (sym r)
 
-  pub act_say : {behind o₁ o₂ o₃ : List ℕ} {p₁ p₂ p₃ : Option ℕ} → Writes (codes "say ") at limit o o₁ p₁ → Wrote names n ws p₁ limit o₁ o₂ p₂ behind →
-      Writes newline p₂ limit o₂ o₃ p₃ → Acted names Say n ws at limit o o₃ p₃ behind
+  pub say_bytes : {rest : List ℕ} → rest ≡ (expr_of n ws).rest →
+      opened_bytes names (Do Say) n ws ≡ codes "say " ++ (term_bytes names n ws ++ (newline ++ lines_bytes names n rest))
   unfolding lines show_lines
-  act_say w₁ w₂ w₃ =
-      record {
-        then = λ o₄ s v.
-            writes_both w₁ (writes_both w₂.writes
-            (writes_both w₃ (told_at (λ k q. let x = before w₃ k q in ap (λ y. lines_bytes names n y) (w₂.rest_is x.0 x.1)) v)));
-      }
+  say_bytes f = ap (λ x. codes "say " ++ (term_bytes names n ws ++ (newline ++ lines_bytes names n x))) (sym f)
 
-  pub act_send : {second third behind r₁ r₂ o₁ o₂ o₃ o₄ o₅ o₆ o₇ : List ℕ} {p₁ p₂ p₃ p₄ p₅ p₆ p₇ : Option ℕ} →
-      second ≡ (expr_of n ws).rest → third ≡ (expr_of n second).rest → Writes (codes "send ") at limit o o₁ p₁ → Wrote names n third p₁ limit o₁ o₂ p₂ behind →
-      Writes (codes " to ") p₂ limit o₂ o₃ p₃ → Wrote names n second p₃ limit o₃ o₄ p₄ r₁ → Writes (codes " after ") p₄ limit o₄ o₅ p₅ →
-      Wrote names n ws p₅ limit o₅ o₆ p₆ r₂ → Writes newline p₆ limit o₆ o₇ p₇ → Acted names Send n ws at limit o o₇ p₇ behind
+  pub send_bytes : {second third rest : List ℕ} → second ≡ (expr_of n ws).rest → third ≡ (expr_of n second).rest → rest ≡ (expr_of n third).rest →
+      opened_bytes names (Do Send) n ws
+      ≡ codes "send " ++ (term_bytes names n third ++ (codes " to " ++ (term_bytes names n second ++ (codes " after " ++ (term_bytes names n ws ++ (newline ++ lines_bytes names n rest))))))
   unfolding lines show_lines
-  act_send {second} {third} e f w₁ w₂ w₃ w₄ w₅ w₆ w₇ =
-      let t : third ≡ (expr_of n (expr_of n ws).rest).rest = f ∙ ap (λ x. (expr_of n x).rest) e in
-      record {
-        then = λ o₈ s v.
-            writes_both w₁ (writes_both (told (ap (λ x. term_bytes names n x) t) w₂.writes)
-            (writes_both w₃ (writes_both (told (ap (λ x. term_bytes names n x) e) w₄.writes)
-            (writes_both w₅ (writes_both w₆.writes (writes_both w₇
-            (told_at (λ k q.
-            let a = before w₇ k q in
-            let b = before w₆.writes a.0 a.1 in
-            let c = before w₅ b.0 b.1 in
-            let d = before w₄.writes c.0 c.1 in
-            let x = before w₃ d.0 d.1 in
-            ap (λ y. lines_bytes names n y) (w₂.rest_is x.0 x.1 ∙ ap (λ y. (expr_of n y).rest) t)) v)))))));
-      }
+  send_bytes {second} {third} {rest} e f g =
+      let all : List ℕ → List ℕ → List ℕ → List ℕ =
+      λ x y z. codes "send " ++ (term_bytes names n y ++ (codes " to " ++ (term_bytes names n x ++ (codes " after " ++ (term_bytes names n ws ++ (newline ++ lines_bytes names n z)))))) in
+      sym (ap (λ z. all second third z) g ∙ ap (λ y. all second y (expr_of n y).rest) f ∙ ap (λ x. all x (expr_of n x).rest (expr_of n (expr_of n x).rest).rest) e)
+
+  pub branch_bytes : {v then otherwise rest : List ℕ} {j k : ℕ} → v ≡ drop 2 ws → then ≡ (expr_of n v).rest → j ≡ get_or ws 0 0 → otherwise ≡ drop j then →
+      k ≡ get_or ws 1 0 → rest ≡ drop k otherwise →
+      opened_bytes names Branch n ws
+      ≡ codes "if " ++ (term_bytes names n v ++ (newline ++ (lines_bytes names n then ++ (else_head (body_of n otherwise) ++ (lines_bytes names n otherwise
+      ++ (codes "end\n" ++ lines_bytes names n rest))))))
+  branch_bytes {v} {then} {otherwise} {rest} {j} {k} e t a f b g =
+      let all : List ℕ → List ℕ → List ℕ → List ℕ → List ℕ =
+      λ x y z w. codes "if " ++ (term_bytes names n x ++ (newline ++ (lines_bytes names n y ++ (else_head (body_of n z) ++ (lines_bytes names n z ++ (codes "end\n" ++ lines_bytes names n w)))))) in
+      let y : then ≡ (expr_of n (drop 2 ws)).rest = t ∙ ap (λ x. (expr_of n x).rest) e in
+      let z : otherwise ≡ drop (get_or ws 0 0) (expr_of n (drop 2 ws)).rest = f ∙ ap (λ m. drop m then) a ∙ ap (λ x. drop (get_or ws 0 0) x) y in
+      let w : rest ≡ drop (get_or ws 1 0) (drop (get_or ws 0 0) (expr_of n (drop 2 ws)).rest) = g ∙ ap (λ m. drop m otherwise) b ∙ ap (λ x. drop (get_or ws 1 0) x) z in
+      show_branch (map unpack names) (expr_of n (drop 2 ws)).expr (body_of n (expr_of n (drop 2 ws)).rest)
+      (body_of n (drop (get_or ws 0 0) (expr_of n (drop 2 ws)).rest)) (body_of n (drop (get_or ws 1 0) (drop (get_or ws 0 0) (expr_of n (drop 2 ws)).rest)))
+      ∙ sym (ap (λ x. all x then otherwise rest) e ∙ ap (λ x. all (drop 2 ws) x otherwise rest) y ∙ ap (λ x. all (drop 2 ws) (expr_of n (drop 2 ws)).rest x rest) z
+      ∙ ap (λ x. all (drop 2 ws) (expr_of n (drop 2 ws)).rest (drop (get_or ws 0 0) (expr_of n (drop 2 ws)).rest) x) w)
+
+  pub repeat_bytes : {v body rest : List ℕ} {j : ℕ} → v ≡ drop 1 ws → body ≡ (expr_of n v).rest → j ≡ get_or ws 0 0 → rest ≡ drop j body →
+      opened_bytes names Repeat n ws
+      ≡ codes "again " ++ (term_bytes names n v ++ (newline ++ (lines_bytes names n body ++ (codes "end\n" ++ lines_bytes names n rest))))
+  unfolding lines show_lines
+  repeat_bytes {v} {body} {rest} {j} e t a f =
+      let all : List ℕ → List ℕ → List ℕ → List ℕ =
+      λ x y w. codes "again " ++ (term_bytes names n x ++ (newline ++ (lines_bytes names n y ++ (codes "end\n" ++ lines_bytes names n w)))) in
+      let y : body ≡ (expr_of n (drop 1 ws)).rest = t ∙ ap (λ x. (expr_of n x).rest) e in
+      let w : rest ≡ drop (get_or ws 0 0) (expr_of n (drop 1 ws)).rest = f ∙ ap (λ m. drop m body) a ∙ ap (λ x. drop (get_or ws 0 0) x) y in
+      sym (ap (λ x. all x body rest) e ∙ ap (λ x. all (drop 1 ws) x rest) y ∙ ap (λ x. all (drop 1 ws) (expr_of n (drop 1 ws)).rest x) w)
 
 -- Lines whose first opens by op; tail stands behind its first word.
-module _ (names : List ℕ) (n : ℕ) (ws tail : List ℕ) (some : 0 < n) (left : false ≡ eqb (length ws) 0) (behind : tail ≡ drop 1 ws) where
-  opened : (op : LineOp) → op ≡ line_op (get_or ws 0 0) → body_of n ws ≡ body_by op (expr_of (n - 1)) (body_of (n - 1)) tail
-  opened op p =
-      subst (λ x. body_of n ws ≡ body_by x (expr_of (n - 1)) (body_of (n - 1)) tail) (sym p)
-      (subst (λ t. body_of n ws ≡ body_by (line_op (get_or ws 0 0)) (expr_of (n - 1)) (body_of (n - 1)) t) (sym behind)
-      (body_step n ws some (some_left (length ws) left)))
+module _ (names : List ℕ) (n : ℕ) (ws : List ℕ) (w : ℕ) (tail : List ℕ) (some : 0 < n) (front : ws ≡ w ∷ tail) where
+  opened : (op : LineOp) → op ≡ line_op w → body_of n ws ≡ body_by op (expr_of (n - 1)) (body_of (n - 1)) tail
+  opened op p = subst (λ x. body_of n ws ≡ body_by x (expr_of (n - 1)) (body_of (n - 1)) tail) (sym p) (body_step n ws w tail some front)
 
-  pub is_stop : Stop ≡ line_op (get_or ws 0 0) → body_of n ws ≡ stop
+  pub is_stop : Stop ≡ line_op w → body_of n ws ≡ stop
   is_stop p = opened Stop p
 
-  pub else_some : (op : LineOp) → op ≡ line_op (get_or ws 0 0) → (op ≡ Stop → ⊥) → else_head (body_of n ws) ≡ codes "else\n"
+  pub else_some : (op : LineOp) → op ≡ line_op w → (op ≡ Stop → ⊥) → else_head (body_of n ws) ≡ codes "else\n"
   else_some Stop p h = absurd (h refl)
   else_some (Do Assign) p h = ap else_head (opened (Do Assign) p)
   else_some (Do Draw) p h = ap else_head (opened (Do Draw) p)
@@ -163,48 +169,6 @@ module _ (names : List ℕ) (n : ℕ) (ws tail : List ℕ) (some : 0 < n) (left 
   else_some Branch p h = ap else_head (opened Branch p)
   else_some Repeat p h = ap else_head (opened Repeat p)
 
-  module _ {at : Option ℕ} {limit : ℕ} {o : List ℕ} where
-    pub at_act : {a : Act} {o' : List ℕ} {r : Option ℕ} (rest : List ℕ) → Do a ≡ line_op (get_or ws 0 0) → Acted names a (n - 1) tail at limit o o' r rest →
-        Ahead (lines_bytes names n ws) (lines_bytes names (n - 1) rest) at limit o o' r
-    at_act {a} rest p f = ahead_of (ap (λ b. show_lines (lines (map unpack names) b)) (sym (opened (Do a) p))) f
-
-    pub at_branch : {v then otherwise rest o₁ o₂ o₃ o₄ o₅ o₆ o₇ : List ℕ} {p₁ p₂ p₃ p₄ p₅ p₆ p₇ : Option ℕ} {j k : ℕ} →
-        Branch ≡ line_op (get_or ws 0 0) → v ≡ drop 2 tail → j ≡ get_or tail 0 0 → k ≡ get_or tail 1 0 → otherwise ≡ drop j then → rest ≡ drop k otherwise →
-        Writes (codes "if ") at limit o o₁ p₁ → Wrote names (n - 1) v p₁ limit o₁ o₂ p₂ then → Writes newline p₂ limit o₂ o₃ p₃ →
-        Writes (lines_bytes names (n - 1) then) p₃ limit o₃ o₄ p₄ → Writes (else_head (body_of (n - 1) otherwise)) p₄ limit o₄ o₅ p₅ →
-        Writes (lines_bytes names (n - 1) otherwise) p₅ limit o₅ o₆ p₆ → Writes (codes "end\n") p₆ limit o₆ o₇ p₇ →
-        Ahead (lines_bytes names n ws) (lines_bytes names (n - 1) rest) at limit o o₇ p₇
-    at_branch {v} {then} {otherwise} {rest} {j} {k} p e a b f g w₁ w₂ w₃ w₄ w₅ w₆ w₇ =
-        let from : List ℕ → List ℕ =
-        λ x. lines_bytes names (n - 1) x ++ (else_head (body_of (n - 1) (drop (get_or tail 0 0) x)) ++ (lines_bytes names (n - 1) (drop (get_or tail 0 0) x)
-        ++ (codes "end\n" ++ lines_bytes names (n - 1) (drop (get_or tail 1 0) (drop (get_or tail 0 0) x))))) in
-        let y : otherwise ≡ drop (get_or tail 0 0) then = cc in
-        let z : rest ≡ drop (get_or tail 1 0) (drop (get_or tail 0 0) then) = cc in
-        record {
-          then = λ o₈ s w₈.
-              told (sym (ap (λ x. show_lines (lines (map unpack names) x)) (opened Branch p)
-              ∙ show_branch (map unpack names) (expr_of (n - 1) (drop 2 tail)).expr (body_of (n - 1) (expr_of (n - 1) (drop 2 tail)).rest)
-              (body_of (n - 1) (drop (get_or tail 0 0) (expr_of (n - 1) (drop 2 tail)).rest)) (body_of (n - 1) (drop (get_or tail 1 0) (drop (get_or tail 0 0) (expr_of (n - 1) (drop 2 tail)).rest)))))
-              (writes_both w₁ (writes_both (told (ap (λ x. term_bytes names (n - 1) x) e) w₂.writes)
-              (writes_both w₃ (told_at (λ i q. let x = before w₃ i q in ap from (w₂.rest_is x.0 x.1 ∙ ap (λ x. (expr_of (n - 1) x).rest) e))
-              (writes_both w₄ (writes_both (told (ap (λ x. else_head (body_of (n - 1) x)) y) w₅) (writes_both (told (ap (λ x. lines_bytes names (n - 1) x) y) w₆)
-              (writes_both w₇ (told (ap (λ x. lines_bytes names (n - 1) x) z) w₈)))))))));
-        }
-
-    pub at_repeat : {v body rest o₁ o₂ o₃ o₄ o₅ : List ℕ} {p₁ p₂ p₃ p₄ p₅ : Option ℕ} {j : ℕ} →
-        Repeat ≡ line_op (get_or ws 0 0) → v ≡ drop 1 tail → j ≡ get_or tail 0 0 → rest ≡ drop j body →
-        Writes (codes "again ") at limit o o₁ p₁ → Wrote names (n - 1) v p₁ limit o₁ o₂ p₂ body → Writes newline p₂ limit o₂ o₃ p₃ →
-        Writes (lines_bytes names (n - 1) body) p₃ limit o₃ o₄ p₄ → Writes (codes "end\n") p₄ limit o₄ o₅ p₅ →
-        Ahead (lines_bytes names n ws) (lines_bytes names (n - 1) rest) at limit o o₅ p₅
-    unfolding lines show_lines
-    at_repeat {v} {body} {rest} {j} p e a f w₁ w₂ w₃ w₄ w₅ =
-        let from : List ℕ → List ℕ =
-        λ x. lines_bytes names (n - 1) x ++ (codes "end\n" ++ lines_bytes names (n - 1) (drop (get_or tail 0 0) x)) in
-        let z : rest ≡ drop (get_or tail 0 0) body = cc in
-        record {
-          then = λ o₆ s w₆.
-              told (sym (ap (λ x. show_lines (lines (map unpack names) x)) (opened Repeat p)))
-              (writes_both w₁ (writes_both (told (ap (λ x. term_bytes names (n - 1) x) e) w₂.writes)
-              (writes_both w₃ (told_at (λ i q. let x = before w₃ i q in ap from (w₂.rest_is x.0 x.1 ∙ ap (λ x. (expr_of (n - 1) x).rest) e))
-              (writes_both w₄ (writes_both w₅ (told (ap (λ x. lines_bytes names (n - 1) x) z) w₆)))))));
-        }
+  -- Their bytes.
+  pub opened_are : (op : LineOp) → op ≡ line_op w → lines_bytes names n ws ≡ opened_bytes names op (n - 1) tail
+  opened_are op p = ap (λ b. show_lines (lines (map unpack names) b)) (opened op p)

@@ -1,10 +1,11 @@
 -- Laws of bytes written at a place.
-use Rattle.std.proofs.Common.{◌≡◌, ℕ, zero, suc, ◌+◌, ◌<◌, ◌≤◌, true, false, leb, List, [], ◌∷◌, ◌++◌, length, set, is_some, Some, None, Ok, Err, Option, sym, refl, ap, ◌∙◌, subst, add-zero, suc-add, zero-add, arith}
-use Rattle.std.proofs.lemmas.List.{length-append}
-use Rattle.std.proofs.lemmas.Bool.{cond-true, cond-false, both_ways, le-leb, lt-leb}
+use Rattle.std.proofs.Common.{◌≡◌, ℕ, zero, suc, ◌+◌, ◌<◌, ◌≤◌, MatchOption, leb, List, [], ◌∷◌, ◌++◌, length, set, Some, None, Ok, Err, Option, sym, refl, ap, ◌∙◌, subst, add-zero, suc-add, zero-add, arith}
+use Rattle.std.proofs.lemmas.List.{length-append, append-nil, append_assoc}
+use Rattle.std.proofs.lemmas.Bool.{cond-true, cond-false, le-leb, lt-leb}
 use Rattle.checker.specs.declared.Rule.TheVariants.{Lent}
 use Rattle.text.specs.Slices.{over}
-use Rattle.text.specs.Written.{spill, Spilled, Outcome, Writes, Ahead, Written}
+use Rattle.text.specs.Written.{spill, Spilled, Passed, Writes, Ahead, WritesText, Written}
+use Rattle.text.specs.declared.writer.Out.{Out}
 
 pub spill_none : (at : ℕ) (out : List ℕ) → spill at [] out ≡ out
 unfolding spill
@@ -46,118 +47,101 @@ spill_over (b ∷ bs) [] h = absurd (omega arith)
 spill_over [] (x ∷ xs) h = refl
 spill_over (b ∷ bs) (x ∷ xs) h = ap (λ ys. b ∷ ys) (spill_over bs xs (omega arith))
 
--- Nothing, wherever it is written.
-none_comes : (at : Option ℕ) (limit : ℕ) (out : List ℕ) → Outcome [] at limit out out at
-none_comes None limit out = tt
-none_comes (Some at) limit out = record { end_is = sym (add-zero at); within = λ h. h; out_is = sym (spill_none at out) }
-
-pub writes_none : (at : Option ℕ) (limit : ℕ) (out : List ℕ) → Writes [] at limit out out at
-writes_none at limit out = record { comes = none_comes at limit out }
+pub spilled_none : {o : Out} → Spilled [] o o
+spilled_none {o} = record { bytes_are = refl; limit_is = refl; end_is = sym (add-zero o.end); within = λ h. h; holds = sym (spill_none o.end o.bytes.now) }
 
 -- One byte.
-pub writes_put : (at : Option ℕ) (k b limit : ℕ) (out out' : List ℕ) → at ≡ Some k → k < limit → out' ≡ set out k b → Writes (b ∷ []) at limit out out' (Some (k + 1))
-writes_put at k b limit out out' p h e =
-    subst (λ x. Writes (b ∷ []) x limit out out' (Some (k + 1))) (sym p)
-    (record { comes = record { end_is = refl; within = λ _. omega arith; out_is = e ∙ sym (spill_set k b out) } })
-
--- Where there is no place, there is none behind.
-lost : (bs : List ℕ) (limit : ℕ) (out out' : List ℕ) (at : Option ℕ) → at ≡ None → Outcome bs at limit out out' None
-lost bs limit out out' None h = tt
-lost bs limit out out' (Some at) h = absurd (let z : ◌≡◌ {A = ℕ} 0 1 = cc in omega arith)
-
-pub no_place : {bs : List ℕ} {limit : ℕ} {out out' : List ℕ} {at r : Option ℕ} → at ≡ None → r ≡ None → Writes bs at limit out out' r
-no_place {bs} {limit} {out} {out'} {at} {r} h k = subst (λ x. Writes bs at limit out out' x) (sym k) (record { comes = lost bs limit out out' at h })
+pub spilled_one : (o o' : Out) (b : ℕ) → o'.bytes.ghost_name ≡ o.bytes.ghost_name → o'.bytes.now ≡ set o.bytes.now o.end b → o'.limit ≡ o.limit → o'.end ≡ o.end + 1 →
+    o.end < o.limit → Spilled (b ∷ []) o o'
+spilled_one o o' b n e l f h =
+    record { bytes_are = n; limit_is = l; end_is = f; within = λ _. omega arith; holds = e ∙ sym (spill_set o.end b o.bytes.now) }
 
 -- Some bytes and then others.
-both_come : (cs bs : List ℕ) (p : Option ℕ) (limit : ℕ) (o o' o'' : List ℕ) (q r : Option ℕ) →
-    Outcome cs p limit o o' q → Outcome bs q limit o' o'' r → Outcome (cs ++ bs) p limit o o'' r
-both_come cs bs None limit o o' o'' None None f g = tt
-both_come cs bs None limit o o' o'' None (Some k) f g = g
-both_come cs bs None limit o o' o'' (Some j) r f g = absurd f
-both_come cs bs (Some i) limit o o' o'' None None f g = rw length-append (omega arith)
-both_come cs bs (Some i) limit o o' o'' None (Some k) f g = absurd g
-both_come cs bs (Some i) limit o o' o'' (Some j) None f g = rw length-append (omega arith)
-both_come cs bs (Some i) limit o o' o'' (Some j) (Some k) f g =
+pub spilled_both : {cs bs : List ℕ} {o o' o'' : Out} → Spilled cs o o' → Spilled bs o' o'' → Spilled (cs ++ bs) o o''
+spilled_both {cs} {bs} {o} {o'} {o''} f g =
     record {
-      end_is = rw length-append (omega arith);
-      within = λ h. g.within (f.within h);
-      out_is = g.out_is ∙ ap (λ n. spill n bs o') f.end_is ∙ ap (λ x. spill (i + length cs) bs x) f.out_is ∙ spill_spill i cs bs o;
+      bytes_are = g.bytes_are ∙ f.bytes_are;
+      limit_is = g.limit_is ∙ f.limit_is;
+      end_is = rw length-append (omega (arith, f.end_is, g.end_is));
+      within = λ h. omega (arith, f.within h, f.limit_is, g.within (omega (arith, f.within h, f.limit_is)));
+      holds = g.holds ∙ ap (λ n. spill n bs o'.bytes.now) f.end_is ∙ ap (λ x. spill (o.end + length cs) bs x) f.holds ∙ spill_spill o.end cs bs o.bytes.now;
     }
 
-pub writes_both : {cs bs : List ℕ} {p : Option ℕ} {limit : ℕ} {o o' o'' : List ℕ} {q r : Option ℕ} →
-    Writes cs p limit o o' q → Writes bs q limit o' o'' r → Writes (cs ++ bs) p limit o o'' r
-writes_both {cs} {bs} {p} {limit} {o} {o'} {o''} {q} {r} f g = record { comes = both_come cs bs p limit o o' o'' q r f.comes g.comes }
+-- The first pass the limit, or those behind them do.
+pub passed_first : {cs : List ℕ} (bs : List ℕ) {o o' : Out} → Passed cs o o' → Passed (cs ++ bs) o o'
+passed_first {cs} bs {o} {o'} f = record { bytes_are = f.bytes_are; passes = rw length-append (omega (arith, f.passes)) }
+
+pub passed_then : {cs bs : List ℕ} {o o' o'' : Out} → Spilled cs o o' → Passed bs o' o'' → Passed (cs ++ bs) o o''
+passed_then {cs} {bs} {o} {o'} {o''} f g =
+    record { bytes_are = g.bytes_are ∙ f.bytes_are; passes = rw length-append (omega (arith, f.end_is, f.limit_is, g.passes)) }
 
 -- The same bytes, told otherwise.
-pub told : {cs bs : List ℕ} {p : Option ℕ} {limit : ℕ} {o o' : List ℕ} {q : Option ℕ} → cs ≡ bs → Writes cs p limit o o' q → Writes bs p limit o o' q
-told {p} {limit} {o} {o'} {q} e w = subst (λ ds. Writes ds p limit o o' q) e w
+pub told : {cs bs : List ℕ} {o o' : Out} → cs ≡ bs → Spilled cs o o' → Spilled bs o o'
+told {o} {o'} e w = subst (λ ds. Spilled ds o o') e w
 
--- Where there is no place, it may be any bytes.
-any_come : (cs bs : List ℕ) (p : Option ℕ) (limit : ℕ) (o o' : List ℕ) (q : Option ℕ) → ((k : ℕ) → p ≡ Some k → cs ≡ bs) → Outcome cs p limit o o' q → Outcome bs p limit o o' q
-any_come cs bs None limit o o' None e w = tt
-any_come cs bs None limit o o' (Some k) e w = w
-any_come cs bs (Some i) limit o o' q e w = subst (λ ds. Outcome ds (Some i) limit o o' q) (e i refl) w
+pub passed_told : {cs bs : List ℕ} {o o' : Out} → cs ≡ bs → Passed cs o o' → Passed bs o o'
+passed_told {o} {o'} e w = subst (λ ds. Passed ds o o') e w
 
-pub told_at : {cs bs : List ℕ} {p : Option ℕ} {limit : ℕ} {o o' : List ℕ} {q : Option ℕ} → ((k : ℕ) → p ≡ Some k → cs ≡ bs) → Writes cs p limit o o' q → Writes bs p limit o o' q
-told_at {cs} {bs} {p} {limit} {o} {o'} {q} e w = record { comes = any_come cs bs p limit o o' q e w.comes }
+pub writes_told : {cs bs : List ℕ} (o o' : Out) (r : Option Unit) → cs ≡ bs → Writes cs o o' r → Writes bs o o' r
+writes_told o o' r e w = subst (λ ds. Writes ds o o' r) e w
 
--- Where there is a place behind, there was one.
-had_place : (bs : List ℕ) (p : Option ℕ) (limit : ℕ) (o o' : List ℕ) (q : Option ℕ) (k : ℕ) → q ≡ Some k → Outcome bs p limit o o' q → (j : ℕ) × (p ≡ Some j)
-had_place bs None limit o o' None k e w = absurd (let z : ◌≡◌ {A = ℕ} 0 1 = cc in omega arith)
-had_place bs None limit o o' (Some j) k e w = absurd w
-had_place bs (Some i) limit o o' q k e w = (i, refl)
+-- No place was left.
+pub lost : {A : Type 0} {bs : List ℕ} {o o' : Out} {r : Option A} (P : A → Type 0) → r ≡ None → Passed bs o o' → MatchOption r (Passed bs o o') P
+lost {bs} {o} {o'} P e w = subst (λ x. MatchOption x (Passed bs o o') P) (sym e) w
 
-pub before : {bs : List ℕ} {p : Option ℕ} {limit : ℕ} {o o' : List ℕ} {q : Option ℕ} → Writes bs p limit o o' q → (k : ℕ) → q ≡ Some k → (j : ℕ) × (p ≡ Some j)
-before {bs} {p} {limit} {o} {o'} {q} w k e = had_place bs p limit o o' q k e w.comes
+pub ahead_all : {all rest : List ℕ} {o : Out} → all ≡ rest → Ahead all rest o o
+ahead_all e = record { done = []; all_is = e; spilled = spilled_none }
 
-is_none : (p : Option ℕ) → is_some p ≡ false → p ≡ None
-is_none None e = refl
-is_none (Some k) e = absurd (both_ways true e refl)
+module _ {all rest : List ℕ} {o o' : Out} (ahead : Ahead all rest o o') where
+  -- A part of the rest is written, or passes the limit.
+  pub ahead_more : {cs rest' : List ℕ} {o'' : Out} → rest ≡ cs ++ rest' → Spilled cs o' o'' → Ahead all rest' o o''
+  ahead_more {cs} {rest'} e w =
+      record {
+        done = ahead.done ++ cs;
+        all_is = ahead.all_is ∙ ap (λ x. ahead.done ++ x) e ∙ sym (append_assoc ahead.done cs rest');
+        spilled = spilled_both ahead.spilled w;
+      }
 
-pub ahead_all : {all : List ℕ} {p : Option ℕ} {limit : ℕ} {o : List ℕ} → Ahead all all p limit o o p
-ahead_all = record { then = λ _ _ w. w }
+  pub ahead_passed : {cs : List ℕ} (rest' : List ℕ) {o'' : Out} → rest ≡ cs ++ rest' → Passed cs o' o'' → Passed all o o''
+  ahead_passed rest' e w = passed_told (sym (ahead.all_is ∙ ap (λ x. ahead.done ++ x) e)) (passed_then ahead.spilled (passed_first rest' w))
 
-module _ {all rest : List ℕ} {p : Option ℕ} {limit : ℕ} {o o' : List ℕ} {q : Option ℕ} (ahead : Ahead all rest p limit o o' q) where
-  -- A part of the rest is written.
-  pub ahead_more : {cs rest' o'' : List ℕ} {r : Option ℕ} → rest ≡ cs ++ rest' → Writes cs q limit o' o'' r → Ahead all rest' p limit o o'' r
-  ahead_more e w = record { then = λ o''' s v. ahead.then o''' s (told (sym e) (writes_both w v)) }
+  -- The first of the rest is written, and what is left of it.
+  pub ahead_then : {rest' : List ℕ} {o'' : Out} → Ahead rest rest' o' o'' → Ahead all rest' o o''
+  ahead_then g = ahead_more g.all_is g.spilled
+
+  pub ahead_then_passed : {o'' : Out} → Passed rest o' o'' → Passed all o o''
+  ahead_then_passed w = passed_told (sym ahead.all_is) (passed_then ahead.spilled w)
 
   -- The rest is told otherwise.
-  pub ahead_told : {rest' : List ℕ} → rest ≡ rest' → Ahead all rest' p limit o o' q
-  ahead_told e = record { then = λ o''' s v. ahead.then o''' s (told (sym e) v) }
+  pub ahead_told : {rest' : List ℕ} → rest ≡ rest' → Ahead all rest' o o'
+  ahead_told e = record { done = ahead.done; all_is = ahead.all_is ∙ ap (λ x. ahead.done ++ x) e; spilled = ahead.spilled }
 
   -- Nothing is left.
-  pub ahead_done : rest ≡ [] → Writes all p limit o o' q
-  ahead_done e = ahead.then o' q (told (sym e) (writes_none q limit o'))
+  pub ahead_done : rest ≡ [] → Spilled all o o'
+  ahead_done e = told (sym (ahead.all_is ∙ ap (λ x. ahead.done ++ x) e ∙ append-nil ahead.done)) ahead.spilled
 
-  -- No place is left.
-  pub ahead_stop : is_some q ≡ false → Writes all p limit o o' None
-  ahead_stop e = ahead.then o' None (no_place (is_none q e) refl)
+  -- What is left is written, if it is within the limit.
+  pub ahead_writes : (o'' : Out) (r : Option Unit) → Writes rest o' o'' r → Writes all o o'' r
+  ahead_writes o'' None w = ahead_then_passed w
+  ahead_writes o'' (Some x) w = told (sym ahead.all_is) (spilled_both ahead.spilled w)
 
--- First so far, and from there further.
-pub ahead_then : {all mid rest : List ℕ} {p : Option ℕ} {limit : ℕ} {o o' o'' : List ℕ} {q r : Option ℕ} →
-    Ahead all mid p limit o o' q → Ahead mid rest q limit o' o'' r → Ahead all rest p limit o o'' r
-ahead_then f g = record { then = λ o''' s v. f.then o''' s (g.then o''' s v) }
+-- Bytes from the first on.
+pub text_lost : {bs : List ℕ} {o o' : Out} {r : Option ℕ} (P : ℕ → Type 0) → r ≡ None → o.end ≡ 0 → Passed bs o o' → MatchOption r (o.limit < length bs) P
+text_lost {bs} {o} {o'} P e z w = subst (λ x. MatchOption x (o.limit < length bs) P) (sym e) (omega (arith, w.passes))
 
--- All is told otherwise.
-pub ahead_of : {all all' rest : List ℕ} {p : Option ℕ} {limit : ℕ} {o o' : List ℕ} {q : Option ℕ} → all ≡ all' → Ahead all rest p limit o o' q → Ahead all' rest p limit o o' q
-ahead_of e f = record { then = λ o'' r w. told e (f.then o'' r w) }
+pub text_done : {bs : List ℕ} {o o' : Out} → o.end ≡ 0 → Spilled bs o o' → (o'.end ≡ length bs) × (o'.end ≤ o.limit) × (o'.bytes.now ≡ spill 0 bs o.bytes.now)
+text_done {bs} {o} {o'} z w = (omega (arith, w.end_is), w.within (omega arith), w.holds ∙ ap (λ n. spill n bs o.bytes.now) z)
 
 -- Counted first, and then written.
-all_written : (bs out out' e e' : List ℕ) (n : ℕ) (r : Option ℕ) → Spilled bs 0 (length out) e e' n → Outcome bs (Some 0) (length out) out out' r → Written bs out out' (Ok n)
-all_written bs out out' e e' n None f g = absurd (omega (arith, f.end_is, f.within (omega arith)))
-all_written bs out out' e e' n (Some k) f g =
-    let h : length bs ≤ length out = omega (arith, f.end_is, f.within (omega arith)) in
-    let z : n ≡ length bs = omega (arith, f.end_is) in
+pub written_all : {bs out out' : List ℕ} {n : ℕ} (r : Option ℕ) → n ≡ length bs → n ≤ length out → WritesText bs (length out) out out' r → Written bs out out' (Ok n)
+written_all None e h f = absurd (omega (arith, f))
+written_all {bs} {out} {out'} {n} (Some k) e h f =
+    let l : length bs ≤ length out = omega (arith, e) in
     record {
-      answers = ap (λ m. Ok m) z ∙ sym (cond-true (leb (length bs) (length out)) _ _ (le-leb _ _ h));
-      holds = g.out_is ∙ spill_over bs out h ∙ sym (cond-true (leb (length bs) (length out)) _ _ (le-leb _ _ h));
+      answers = ap (λ m. Ok m) e ∙ sym (cond-true (leb (length bs) (length out)) _ _ (le-leb _ _ l));
+      holds = f.2 ∙ spill_over bs out l ∙ sym (cond-true (leb (length bs) (length out)) _ _ (le-leb _ _ l));
     }
 
-pub written_all : {bs out out' e e' : List ℕ} {n : ℕ} {r : Option ℕ} → Writes bs (Some 0) (length out) e e' (Some n) → Writes bs (Some 0) (length out) out out' r → Written bs out out' (Ok n)
-written_all {bs} {out} {out'} {e} {e'} {n} {r} f g = all_written bs out out' e e' n r f.comes g.comes
-
-pub written_none : {bs out e e' : List ℕ} → Writes bs (Some 0) (length out) e e' None → Written bs out out (Err (record { rule = Lent; place = 4 }))
-written_none {bs} {out} f =
-    let h : length out < length bs = omega (arith, f.comes) in
+pub written_none : {bs out : List ℕ} → length out < length bs → Written bs out out (Err (record { rule = Lent; place = 4 }))
+written_none {bs} {out} h =
     record { answers = sym (cond-false (leb (length bs) (length out)) _ _ (lt-leb _ _ h)); holds = sym (cond-false (leb (length bs) (length out)) _ _ (lt-leb _ _ h)) }

@@ -1,5 +1,5 @@
 -- What is written of an expression, by how it opens.
-use Rattle.std.proofs.Common.{◌≡◌, ℕ, zero, suc, ◌-◌, ◌<◌, true, false, eqb, ◌⊎◌, List, [], ◌∷◌, map, length, get_or, drop, Some, codes, Option, sym, refl, ap, ◌∙◌, subst, inl, inr, sub-one, arith}
+use Rattle.std.proofs.Common.{◌≡◌, ℕ, zero, suc, ◌-◌, ◌<◌, true, false, eqb, ◌⊎◌, List, [], ◌∷◌, ◌++◌, map, length, get_or, drop, codes, sym, refl, ap, ◌∙◌, subst, inl, inr, sub-one, arith}
 use Rattle.std.proofs.lemmas.Bool.{both_ways, eqb-true}
 use Rattle.body.specs.declared.Binary.{Binary}
 use Rattle.body.specs.declared.Binary.TheVariants.{Plus, Minus, Times, Over, Remains, Less, Same}
@@ -10,8 +10,7 @@ use Rattle.meaning.specs.Model.{Expr}
 use Rattle.checker.specs.Words.{unpack}
 use Rattle.grammar.specs.Syntax.{two, show_term, sign_byte}
 use Rattle.text.specs.Named.{digits, term}
-use Rattle.text.specs.Written.{Writes, Wrote, sign_of, term_bytes}
-use Rattle.text.proofs.Spills.{writes_both, told, told_at, before}
+use Rattle.text.specs.Written.{sign_of, term_bytes}
 use Rattle.text.proofs.Words.{unpack_zero}
 
 pub some_left : (a : ℕ) → false ≡ eqb a 0 → 0 < a
@@ -41,13 +40,12 @@ term_two ns Less e f = refl
 term_two ns Same e f = refl
 
 -- Where no word is left it is the number 0.
-pub none_left : (names : List ℕ) (n : ℕ) (ws : List ℕ) (at : Option ℕ) (limit : ℕ) (o o' : List ℕ) (r : Option ℕ) →
-    (n ≡ 0) ⊎ (true ≡ eqb (length ws) 0) → Writes (digits 0) at limit o o' r → Wrote names n ws at limit o o' r ws
+pub none_bytes : (names : List ℕ) (n : ℕ) (ws : List ℕ) → (n ≡ 0) ⊎ (true ≡ eqb (length ws) 0) → digits 0 ≡ term_bytes names n ws
 unfolding expr_of term show_term
-none_left names zero ws at limit o o' r h w = record { writes = w; rest_is = λ _ _. refl }
-none_left names (suc n) [] at limit o o' r h w = record { writes = w; rest_is = λ _ _. refl }
-none_left names (suc n) (v ∷ ws) at limit o o' r (inl h) w = absurd (omega arith)
-none_left names (suc n) (v ∷ ws) at limit o o' r (inr h) w = absurd (omega (arith, eqb-true (length (v ∷ ws)) 0 (sym h)))
+none_bytes names zero ws h = refl
+none_bytes names (suc n) [] h = refl
+none_bytes names (suc n) (v ∷ ws) (inl h) = absurd (omega arith)
+none_bytes names (suc n) (v ∷ ws) (inr h) = absurd (omega (arith, eqb-true (length (v ∷ ws)) 0 (sym h)))
 
 pub rest_all : (n : ℕ) (ws : List ℕ) → (n ≡ 0) ⊎ (true ≡ eqb (length ws) 0) → (expr_of n ws).rest ≡ ws
 unfolding expr_of
@@ -77,56 +75,40 @@ module _ (names : List ℕ) (n : ℕ) (ws tail : List ℕ) (some : n ≡ 0 → �
   pub rest_two : {b : Binary} {middle rest : List ℕ} → Two b ≡ expr_op (get_or ws 0 0) → middle ≡ (expr_of (n - 1) tail).rest → rest ≡ (expr_of (n - 1) middle).rest → rest ≡ (expr_of n ws).rest
   rest_two {b} e f g = g ∙ ap (λ x. (expr_of (n - 1) x).rest) f ∙ ap (λ x. x.rest) (sym (eq_of (Two b) e))
 
-  module _ {at : Option ℕ} {limit : ℕ} {o : List ℕ} where
-    finished : {o' rest : List ℕ} {r : Option ℕ} (op : ExprOp) → op ≡ expr_op (get_or ws 0 0) →
-        Writes (show_term (term (map unpack names) (expr_by op (expr_of (n - 1)) tail).expr)) at limit o o' r →
-        ((k : ℕ) → r ≡ Some k → rest ≡ (expr_by op (expr_of (n - 1)) tail).rest) → Wrote names n ws at limit o o' r rest
-    finished op e w q =
-        record {
-          writes = told (ap (λ x. show_term (term (map unpack names) x.expr)) (sym (eq_of op e))) w;
-          rest_is = λ k s. q k s ∙ ap (λ x. x.rest) (sym (eq_of op e));
-        }
+  -- Its bytes.
+  bytes_of : (op : ExprOp) → op ≡ expr_op (get_or ws 0 0) → show_term (term (map unpack names) (expr_by op (expr_of (n - 1)) tail).expr) ≡ term_bytes names n ws
+  bytes_of op e = ap (λ x. show_term (term (map unpack names) x.expr)) (sym (eq_of op e))
 
-    pub at_fixed : {o' rest : List ℕ} {r : Option ℕ} {v : ℕ} → Fixed ≡ expr_op (get_or ws 0 0) → v ≡ get_or tail 0 0 → rest ≡ drop 1 tail →
-        Writes (digits v) at limit o o' r → Wrote names n ws at limit o o' r rest
-    unfolding term show_term
-    at_fixed e p q w = finished Fixed e (told (ap digits p) w) (λ _ _. q)
+  pub fixed_bytes : {v : ℕ} → Fixed ≡ expr_op (get_or ws 0 0) → v ≡ get_or tail 0 0 → digits v ≡ term_bytes names n ws
+  unfolding term show_term
+  fixed_bytes e p = ap digits p ∙ bytes_of Fixed e
 
-    pub at_var : {o' rest : List ℕ} {r : Option ℕ} {k p : ℕ} → Var ≡ expr_op (get_or ws 0 0) → k ≡ get_or tail 0 0 → p ≡ get_or names k 0 → rest ≡ drop 1 tail →
-        Writes (unpack p) at limit o o' r → Wrote names n ws at limit o o' r rest
-    unfolding term show_term
-    at_var e h p q w = finished Var e (told (ap unpack p ∙ ap (λ j. unpack (get_or names j 0)) h ∙ name_of names (get_or tail 0 0)) w) (λ _ _. q)
+  pub var_bytes : {k p : ℕ} → Var ≡ expr_op (get_or ws 0 0) → k ≡ get_or tail 0 0 → p ≡ get_or names k 0 → unpack p ≡ term_bytes names n ws
+  unfolding term show_term
+  var_bytes e h p = ap unpack p ∙ ap (λ j. unpack (get_or names j 0)) h ∙ name_of names (get_or tail 0 0) ∙ bytes_of Var e
 
-    pub at_it : {o' : List ℕ} {r : Option ℕ} → It ≡ expr_op (get_or ws 0 0) → Writes (codes "it") at limit o o' r → Wrote names n ws at limit o o' r tail
-    unfolding term show_term
-    at_it e w = finished It e w (λ _ _. refl)
+  pub it_bytes : It ≡ expr_op (get_or ws 0 0) → codes "it" ≡ term_bytes names n ws
+  unfolding term show_term
+  it_bytes e = bytes_of It e
 
-    pub at_me : {o' : List ℕ} {r : Option ℕ} → Me ≡ expr_op (get_or ws 0 0) → Writes (codes "me") at limit o o' r → Wrote names n ws at limit o o' r tail
-    unfolding term show_term
-    at_me e w = finished Me e w (λ _ _. refl)
+  pub me_bytes : Me ≡ expr_op (get_or ws 0 0) → codes "me" ≡ term_bytes names n ws
+  unfolding term show_term
+  me_bytes e = bytes_of Me e
 
-    pub at_clock : {o' : List ℕ} {r : Option ℕ} → Clock ≡ expr_op (get_or ws 0 0) → Writes (codes "now") at limit o o' r → Wrote names n ws at limit o o' r tail
-    unfolding term show_term
-    at_clock e w = finished Clock e w (λ _ _. refl)
+  pub clock_bytes : Clock ≡ expr_op (get_or ws 0 0) → codes "now" ≡ term_bytes names n ws
+  unfolding term show_term
+  clock_bytes e = bytes_of Clock e
 
-    pub at_nothing : {o' : List ℕ} {r : Option ℕ} → Nothing ≡ expr_op (get_or ws 0 0) → Writes (digits 0) at limit o o' r → Wrote names n ws at limit o o' r tail
-    unfolding term show_term
-    at_nothing e w = finished Nothing e w (λ _ _. refl)
+  pub nothing_bytes : Nothing ≡ expr_op (get_or ws 0 0) → digits 0 ≡ term_bytes names n ws
+  unfolding term show_term
+  nothing_bytes e = bytes_of Nothing e
 
-    -- Two expressions between parentheses, with a sign between them.
-    pub at_two : {b : Binary} {s : ℕ} {middle rest o₁ o₂ o₃ o₄ o₅ o₆ o₇ : List ℕ} {p₁ p₂ p₃ p₄ p₅ p₆ p₇ : Option ℕ} →
-        Two b ≡ expr_op (get_or ws 0 0) → s ≡ sign_byte (sign_of b) → Writes (codes "(") at limit o o₁ p₁ → Wrote names (n - 1) tail p₁ limit o₁ o₂ p₂ middle →
-        Writes (codes " ") p₂ limit o₂ o₃ p₃ → Writes (s ∷ []) p₃ limit o₃ o₄ p₄ → Writes (codes " ") p₄ limit o₄ o₅ p₅ →
-        Wrote names (n - 1) middle p₅ limit o₅ o₆ p₆ rest → Writes (codes ")") p₆ limit o₆ o₇ p₇ → Wrote names n ws at limit o o₇ p₇ rest
-    unfolding show_term
-    at_two {b} {s} {middle} {rest} {p₂} {p₃} {p₄} {p₅} {p₆} {p₇} e q w₁ w₂ w₃ w₄ w₅ w₆ w₇ =
-        let back₅ : (k : ℕ) → p₅ ≡ Some k → middle ≡ (expr_of (n - 1) tail).rest =
-        λ k h. let x = before w₅ k h in let y = before w₄ x.0 x.1 in let z = before w₃ y.0 y.1 in w₂.rest_is z.0 z.1 in
-        finished (Two b) e
-        (told (ap show_term (sym (term_two (map unpack names) b (expr_of (n - 1) tail).expr (expr_of (n - 1) (expr_of (n - 1) tail).rest).expr)))
-        (writes_both w₁ (writes_both w₂.writes (writes_both w₃ (writes_both (told (ap (λ x. x ∷ []) q) w₄) (writes_both w₅
-        (writes_both (told_at (λ k h. ap (λ x. term_bytes names (n - 1) x) (back₅ k h)) w₆.writes) w₇)))))))
-        (λ k h.
-        let x = before w₇ k h in
-        let y = before w₆.writes x.0 x.1 in
-        w₆.rest_is x.0 x.1 ∙ ap (λ m. (expr_of (n - 1) m).rest) (back₅ y.0 y.1))
+  -- Two expressions between parentheses, with a sign between them.
+  pub two_bytes : {b : Binary} {s : ℕ} {middle : List ℕ} → Two b ≡ expr_op (get_or ws 0 0) → s ≡ sign_byte (sign_of b) → middle ≡ (expr_of (n - 1) tail).rest →
+      codes "(" ++ (term_bytes names (n - 1) tail ++ (codes " " ++ ((s ∷ []) ++ (codes " " ++ (term_bytes names (n - 1) middle ++ codes ")"))))) ≡ term_bytes names n ws
+  unfolding show_term
+  two_bytes {b} {s} {middle} e q m =
+      ap (λ x. codes "(" ++ (term_bytes names (n - 1) tail ++ (codes " " ++ ((x ∷ []) ++ (codes " " ++ (term_bytes names (n - 1) middle ++ codes ")")))))) q
+      ∙ ap (λ x. codes "(" ++ (term_bytes names (n - 1) tail ++ (codes " " ++ ((sign_byte (sign_of b) ∷ []) ++ (codes " " ++ (term_bytes names (n - 1) x ++ codes ")")))))) m
+      ∙ ap show_term (sym (term_two (map unpack names) b (expr_of (n - 1) tail).expr (expr_of (n - 1) (expr_of (n - 1) tail).rest).expr))
+      ∙ bytes_of (Two b) e

@@ -1,8 +1,9 @@
 -- What is written of kinds, things and messages, one after the other.
-use Rattle.std.proofs.Common.{◌≡◌, ℕ, zero, suc, ◌+◌, ◌*◌, ◌<◌, ◌≤◌, min, Bool, true, false, cond, eqb, ltb, List, [], ◌∷◌, ◌++◌, map, length, get_or, take, drop, codes, sym, refl, ap, ◌∙◌, arith}
+use Rattle.std.proofs.Common.{◌≡◌, ℕ, zero, suc, ◌+◌, ◌*◌, ◌<◌, ◌≤◌, min, Bool, true, false, not, cond, eqb, ltb, List, [], ◌∷◌, ◌++◌, map, length, get_or, take, drop, Some, None, codes, one-add, sym, refl, ap, ◌∙◌, arith}
+use Rattle.std.specs.List.{position, position_or_len}
 use Rattle.std.proofs.lemmas.Bool.Decides.{nat_tests}
-use Rattle.std.proofs.lemmas.List.{append-nil, append_assoc, drop_more, drop_all, take_all, map_more, get_or-drop}
-use Rattle.std.proofs.lemmas.Bool.{cond-true, cond-false, cond_below, le-ltb, eq-eqb, ne_eqb}
+use Rattle.std.proofs.lemmas.List.{append_assoc, drop_more, drop_all, take_all, get_or-drop}
+use Rattle.std.proofs.lemmas.Bool.{cond-false, cond_below, le-ltb}
 use Rattle.body.specs.declared.Process.{Process}
 use Rattle.meaning.specs.declared.Message.{Message}
 use Rattle.sequential.specs.Memory.{body_from}
@@ -14,12 +15,13 @@ use Rattle.text.specs.Written.{held_kind, kind_name, thing_of, kinds_bytes, thin
 use Rattle.text.proofs.Words.{unpack_zero}
 
 -- Each after a space.
-pub row_more : (f : ℕ → List ℕ) (xs : List ℕ) (i : ℕ) → i < length xs →
-    show_row (map f (drop i xs)) ≡ (codes " " ++ f (get_or xs i 0)) ++ show_row (map f (drop (i + 1) xs))
+pub row_more : {X : Type 0} (f : X → List ℕ) (xs : List X) (i : ℕ) (x : X) → i < length xs → x ≡ get_or xs i x →
+    show_row (map f (drop i xs)) ≡ (codes " " ++ f x) ++ show_row (map f (drop (i + 1) xs))
 unfolding show_row
-row_more f xs i h = ap (λ ys. show_row (map f ys)) (drop_more xs i 0 h)
+row_more f xs i x h e =
+    ap (λ ys. show_row (map f ys)) (drop_more xs i x h) ∙ ap (λ y. (codes " " ++ f y) ++ show_row (map f (drop (i + 1) xs))) (sym e)
 
-pub row_none : (f : ℕ → List ℕ) (xs : List ℕ) (i : ℕ) → length xs ≤ i → show_row (map f (drop i xs)) ≡ []
+pub row_none : {X : Type 0} (f : X → List ℕ) (xs : List X) (i : ℕ) → length xs ≤ i → show_row (map f (drop i xs)) ≡ []
 unfolding show_row
 row_none f xs i h = ap (λ ys. show_row (map f ys)) (drop_all i xs h)
 
@@ -45,7 +47,7 @@ pub notes_none : (ms : List Message) (i : ℕ) → length ms ≤ i → notes_byt
 unfolding show_notes
 notes_none ms i h = ap notes_bytes (drop_all i ms h)
 
-pub things_more : (kinds names : List ℕ) (ps : List Process) (vars : List ℕ) (i : ℕ) (p : Process) → i < length ps →
+things_more : (kinds names : List ℕ) (ps : List Process) (vars : List ℕ) (i : ℕ) (p : Process) → i < length ps →
     things_bytes kinds names (drop i ps) vars
     ≡ show_things (thing_of (kind_name kinds names (get_or ps i p).kind) (take (min (get_or ps i p).width 64) vars) ∷ []) ++ things_bytes kinds names (drop (i + 1) ps) (drop 64 vars)
 unfolding held_things
@@ -68,34 +70,23 @@ pub things_none : (kinds names : List ℕ) (ps : List Process) (vars : List ℕ)
 unfolding show_things held_things
 things_none kinds names ps vars i h = ap (λ x. things_bytes kinds names x vars) (drop_all i ps h)
 
-pub kinds_more : (code kinds names : List ℕ) (i : ℕ) → i < length kinds →
+kinds_more : (code kinds names : List ℕ) (i : ℕ) → i < length kinds →
     kinds_bytes code (drop i kinds) names ≡ show_kinds (kind_text (held_kind code (get_or kinds i 0) names) ∷ []) ++ kinds_bytes code (drop (i + 1) kinds) (drop 65 names)
 unfolding held_kinds
 kinds_more code kinds names i h =
     ap (λ x. kinds_bytes code x names) (drop_more kinds i 0 h)
     ∙ kinds_cons (kind_text (held_kind code (get_or kinds i 0) names)) (map kind_text (held_kinds code (drop (i + 1) kinds) (drop 65 names)))
 
+-- A turn of the loop: what it wrote, and the rows behind.
+pub kinds_turn : (code kinds names rest : List ℕ) (i : ℕ) → i < length kinds → rest ≡ drop 65 names →
+    kinds_bytes code (drop i kinds) names ≡ show_kinds (kind_text (held_kind code (get_or kinds i 0) names) ∷ []) ++ kinds_bytes code (drop (i + 1) kinds) rest
+kinds_turn code kinds names rest i h e =
+    kinds_more code kinds names i h
+    ∙ ap (λ x. show_kinds (kind_text (held_kind code (get_or kinds i 0) names) ∷ []) ++ kinds_bytes code (drop (i + 1) kinds) x) (sym e)
+
 pub kinds_none : (code kinds names : List ℕ) (i : ℕ) → length kinds ≤ i → kinds_bytes code (drop i kinds) names ≡ []
 unfolding show_kinds held_kinds
 kinds_none code kinds names i h = ap (λ x. kinds_bytes code x names) (drop_all i kinds h)
-
--- Names up to the first 0.
-pub names_end : (xs : List ℕ) (i : ℕ) → i < length xs → get_or xs i 0 ≡ 0 → names_of (drop i xs) ≡ []
-unfolding names_of
-names_end xs i h e = ap names_of (drop_more xs i 0 h) ∙ cond-true (eqb (get_or xs i 0) 0) _ _ (eq-eqb _ _ e)
-
-pub names_more : (xs : List ℕ) (i : ℕ) → i < length xs → (get_or xs i 0 ≡ 0 → ⊥) →
-    map unpack (take (i + 1) xs) ++ names_of (drop (i + 1) xs) ≡ map unpack (take i xs) ++ names_of (drop i xs)
-unfolding names_of
-names_more xs i h e =
-    ap (λ ys. ys ++ names_of (drop (i + 1) xs)) (map_more unpack xs i 0 h)
-    ∙ append_assoc (map unpack (take i xs)) (unpack (get_or xs i 0) ∷ []) (names_of (drop (i + 1) xs))
-    ∙ ap (λ ys. map unpack (take i xs) ++ ys) (sym (ap names_of (drop_more xs i 0 h) ∙ cond-false (eqb (get_or xs i 0) 0) _ _ (ne_eqb _ _ e)))
-
-pub names_all : (xs : List ℕ) (i : ℕ) → length xs ≤ i → map unpack (take i xs) ++ names_of (drop i xs) ≡ map unpack xs
-unfolding names_of
-names_all xs i h =
-    ap (λ ys. map unpack (take i xs) ++ names_of ys) (drop_all i xs h) ∙ append-nil (map unpack (take i xs)) ∙ ap (map unpack) (take_all i xs h)
 
 ltb_suc : (a b : ℕ) → ltb a b ≡ ltb (suc a) (suc b)
 ltb_suc a b = grind (arith, nat_tests)
@@ -137,3 +128,30 @@ kind_is code s names known own p e f g =
     ap (λ x. codes "kind " ++ (unpack x ++ (show_row (map unpack known) ++ (newline ++ (lines_bytes known (length own) own ++ codes "end\n"))))) g
     ∙ ap (λ x. codes "kind " ++ (unpack (get_or names 0 0) ++ (show_row (map unpack known) ++ (newline ++ (lines_bytes known (length x) x ++ codes "end\n"))))) f
     ∙ ap (λ x. codes "kind " ++ (unpack (get_or names 0 0) ++ (show_row x ++ (newline ++ (show_lines (lines x (body_from code s)) ++ codes "end\n"))))) e
+
+by_first : (p : ℕ) (xs : List ℕ) (b : Bool) → map unpack (take (position_or_len (λ x. eqb x 0) xs) xs) ≡ names_of xs →
+    map unpack (take (cond (not b) (1 + position_or_len (λ x. eqb x 0) xs) 0) (p ∷ xs)) ≡ cond b [] (unpack p ∷ names_of xs)
+by_first p xs true e = refl
+by_first p xs false e = rw one-add (ap (λ ys. unpack p ∷ ys) e)
+
+-- The names up to the first 0 are as many as stand before it.
+names_known : (xs : List ℕ) → map unpack (take (position_or_len (λ x. eqb x 0) xs) xs) ≡ names_of xs
+unfolding names_of
+names_known [] = refl
+names_known (p ∷ xs) = by_first p xs (eqb p 0) (names_known xs)
+
+found : (b : Bool) (n k : ℕ) → cond b (Some n) None ≡ Some k → n ≡ k
+found true n k e = cc
+found false n k e = absurd (let z : ◌≡◌ {A = ℕ} 0 1 = cc in omega arith)
+
+pub known_some : (xs : List ℕ) (k : ℕ) → position (λ x. eqb x 0) xs ≡ Some k → map unpack (take k xs) ≡ names_of xs
+known_some xs k e = ap (λ n. map unpack (take n xs)) (sym (found (ltb (position_or_len (λ x. eqb x 0) xs) (length xs)) _ k e)) ∙ names_known xs
+
+not_found : (b : Bool) (n : ℕ) → cond b (Some n) None ≡ None → b ≡ false
+not_found true n e = absurd (let z : ◌≡◌ {A = ℕ} 0 1 = cc in omega arith)
+not_found false n e = refl
+
+pub known_none : (xs : List ℕ) → position (λ x. eqb x 0) xs ≡ None → map unpack xs ≡ names_of xs
+known_none xs e =
+    let h = not_found (ltb (position_or_len (λ x. eqb x 0) xs) (length xs)) _ e in
+    ap (map unpack) (sym (take_all (position_or_len (λ x. eqb x 0) xs) xs (grind (arith, nat_tests)))) ∙ names_known xs

@@ -1,11 +1,13 @@
 -- What the writer writes: bytes at a place of a lent slice, and the text of what lent slices hold.
-use Rattle.std.specs.Prelude.{◌≡◌, ℕ, zero, suc, ◌+◌, ◌*◌, ◌<◌, ◌≤◌, cond, List, [], ◌∷◌, map, length, take, drop, Some, None, Ok, Err, codes, Option, Result, nat_le, nat_lt, slice_index}
+use Rattle.std.specs.Prelude.{◌≡◌, ℕ, zero, suc, ◌+◌, ◌*◌, ◌<◌, ◌≤◌, cond, List, [], ◌∷◌, ◌++◌, map, length, take, drop, Ok, Err, codes, Option, Result, MatchOption, nat_le, nat_lt, slice_index}
+use Rattle.std.specs.Borrow.{Bor}
+use Rattle.text.specs.declared.writer.Out.{Out}
 use Rattle.checker.specs.declared.Refusal.{Refusal}
 use Rattle.checker.specs.declared.Rule.TheVariants.{Lent}
 use Rattle.body.specs.declared.Binary.{Binary}
 use Rattle.body.specs.declared.Binary.TheVariants as body
-use Rattle.body.specs.Code.{expr_of, act_by, body_of}
-use Rattle.body.specs.declared.Act.{Act}
+use Rattle.body.specs.Code.{expr_of, body_by, body_of}
+use Rattle.body.specs.declared.LineOp.{LineOp}
 use Rattle.grammar.specs.Syntax.{Sign, plus, minus, times, over as divided, remains, less, equal, Thing, show_term, show_lines, show_kinds, show_things, show_notes, show}
 use Rattle.meaning.specs.Model.{Body, stop, assign, draw, say, send, branch, repeat}
 use Rattle.checker.specs.Words.{unpack}
@@ -22,26 +24,27 @@ spill zero [] (x ∷ xs) = x ∷ xs
 spill zero (b ∷ bs) (x ∷ xs) = b ∷ spill zero bs xs
 spill (suc at) bs (x ∷ xs) = x ∷ spill at bs xs
 
--- Bytes written from at on end at k, within the limit if they begin within it.
-pub record Spilled (bs : List ℕ) (at limit : ℕ) (out out' : List ℕ) (k : ℕ) : Type 0 where
-  pub end_is : k ≡ at + length bs
-  pub within : at ≤ limit → k ≤ limit
-  pub out_is : out' ≡ spill at bs out
+-- Bytes are written behind those that are there, into the same lent ones; the end stays within the limit.
+pub record Spilled (bs : List ℕ) (o o' : Out) : Type 0 where
+  pub bytes_are : o'.bytes.ghost_name ≡ o.bytes.ghost_name
+  pub limit_is : o'.limit ≡ o.limit
+  pub end_is : o'.end ≡ o.end + length bs
+  pub within : o.end ≤ o.limit → o'.end ≤ o.limit
+  pub holds : o'.bytes.now ≡ spill o.end bs o.bytes.now
 
--- By whether there is a place to begin at, and one behind.
-abbrev pub Outcome : List ℕ → Option ℕ → ℕ → List ℕ → List ℕ → Option ℕ → Type 0
-Outcome bs None limit out out' None = Unit {0}
-Outcome bs None limit out out' (Some k) = ⊥
-Outcome bs (Some at) limit out out' None = limit < at + length bs
-Outcome bs (Some at) limit out out' (Some k) = Spilled bs at limit out out' k
+-- They would pass the limit, and what was written of them is left open.
+pub record Passed (bs : List ℕ) (o o' : Out) : Type 0 where
+  pub bytes_are : o'.bytes.ghost_name ≡ o.bytes.ghost_name
+  pub passes : o.limit < o.end + length bs
 
--- Bytes are written from a place on, if there is one: r is the place behind them, or none if they pass the limit.
-pub record Writes (bs : List ℕ) (at : Option ℕ) (limit : ℕ) (out out' : List ℕ) (r : Option ℕ) : Type 0 where
-  pub comes : Outcome bs at limit out out' r
+abbrev pub Writes : List ℕ → Out → Out → Option Unit → Type 0
+Writes bs o o' r = MatchOption r (Passed bs o o') (λ _. Spilled bs o o')
 
 -- So far is written that all is, once the rest is written too.
-pub record Ahead (all rest : List ℕ) (at : Option ℕ) (limit : ℕ) (out out' : List ℕ) (r : Option ℕ) : Type 0 where
-  pub then : (o : List ℕ) (q : Option ℕ) → Writes rest r limit out' o q → Writes all at limit out o q
+pub record Ahead (all rest : List ℕ) (o o' : Out) : Type 0 where
+  pub done : List ℕ
+  pub all_is : all ≡ done ++ rest
+  pub spilled : Spilled done o o'
 
 -- How an operation is written.
 abbrev pub sign_of : Binary → Sign
@@ -61,10 +64,13 @@ term_bytes names n ws = show_term (term (map unpack names) (expr_of n ws).expr)
 abbrev pub lines_bytes : List ℕ → ℕ → List ℕ → List ℕ
 lines_bytes names n ws = show_lines (lines (map unpack names) (body_of n ws))
 
--- The expression at the front of ws is written, and if there is a place behind it, rest is what stands behind it.
-pub record Wrote (names : List ℕ) (n : ℕ) (ws : List ℕ) (at : Option ℕ) (limit : ℕ) (out out' : List ℕ) (r : Option ℕ) (rest : List ℕ) : Type 0 where
-  pub writes : Writes (term_bytes names n ws) at limit out out' r
-  pub rest_is : (k : ℕ) → r ≡ Some k → rest ≡ (expr_of n ws).rest
+-- The expression at the front of ws is written, and rest is what stands behind it.
+pub record WroteTerm (names : List ℕ) (n : ℕ) (ws : List ℕ) (o o' : Out) (rest : List ℕ) : Type 0 where
+  pub spilled : Spilled (term_bytes names n ws) o o'
+  pub rest_is : rest ≡ (expr_of n ws).rest
+
+abbrev pub Wrote : List ℕ → ℕ → List ℕ → Out → Out → Option (Bor (List ℕ)) → Type 0
+Wrote names n ws o o' r = MatchOption r (Passed (term_bytes names n ws) o o') (λ rest. WroteTerm names n ws o o' rest.now)
 
 -- What stands before the lines of an else: nothing if there are none.
 abbrev pub else_head : Body → List ℕ
@@ -76,10 +82,14 @@ else_head (send g f e b) = codes "else\n"
 else_head (branch e b c rest) = codes "else\n"
 else_head (repeat e b rest) = codes "else\n"
 
--- A line with no lines in it, at the front of ws, is written, and the lines at rest are those behind it.
-abbrev pub Acted : List ℕ → Act → ℕ → List ℕ → Option ℕ → ℕ → List ℕ → List ℕ → Option ℕ → List ℕ → Type 0
-Acted names act n ws at limit out out' r rest =
-    Ahead (show_lines (lines (map unpack names) (act_by act (expr_of n) (body_of n) ws))) (lines_bytes names n rest) at limit out out' r
+-- The bytes of the lines whose first opens by op, and has ws behind its first word.
+abbrev pub opened_bytes : List ℕ → LineOp → ℕ → List ℕ → List ℕ
+opened_bytes names op n ws = show_lines (lines (map unpack names) (body_by op (expr_of n) (body_of n) ws))
+
+-- The first of them is written, and the lines at rest are those behind it.
+abbrev pub Opened : List ℕ → LineOp → ℕ → List ℕ → Out → Out → Option (Bor (List ℕ)) → Type 0
+Opened names op n ws o o' r =
+    MatchOption r (Passed (opened_bytes names op n ws) o o') (λ rest. Ahead (opened_bytes names op n ws) (lines_bytes names n rest.now) o o')
 
 -- The kind that begins at a place of the code, with its row of names.
 abbrev pub held_kind : List ℕ → ℕ → List ℕ → NamedKind
@@ -106,6 +116,10 @@ notes_bytes ms = show_notes (map note_text (map held_note ms))
 -- The bytes of the text of what lent slices hold.
 abbrev pub text_bytes : List ℕ → List ℕ → List ℕ → List Process → List ℕ → List Message → List ℕ
 text_bytes code kinds names ps vars ms = show (text_of (held (slices code kinds names ps vars ms)))
+
+-- The length of bytes that are written into lent ones from the first on, if it is within the limit.
+abbrev pub WritesText : List ℕ → ℕ → List ℕ → List ℕ → Option ℕ → Type 0
+WritesText bs limit out out' r = MatchOption r (limit < length bs) (λ n. (n ≡ length bs) × (n ≤ limit) × (out' ≡ spill 0 bs out))
 
 -- The answer for bytes that go into lent ones from the first on, and the lent ones after it.
 abbrev pub answer : List ℕ → List ℕ → Result ℕ Refusal

@@ -10,7 +10,7 @@ pub mod stage;
 mod writer;
 
 pub use loader::{Amounts, fill, load};
-pub use writer::write;
+pub use writer::{Model, write};
 
 // The digits of a number are read as that number.
 pub fn digits_read()

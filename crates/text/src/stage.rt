@@ -1,5 +1,7 @@
 // Memory for a text, made as large as any text of so many bytes needs, and the model that it is filled with.
-use super::load;
+ghost use Rattle.std.specs.Prelude.{◌≡◌};
+
+use super::{Model, load};
 use body::Process;
 use checker::Refusal;
 use meaning::Message;
@@ -45,6 +47,26 @@ pub struct Stage {
     pub processes: Vec<Process>,
     pub vars: Vec<u32>,
     pub messages: Vec<Message>,
+}
+
+impl Stage {
+    pub fn model(&self) -> Model<'_>
+        ensures code { result.code.now ≡ self.now.code.items }
+        ensures kinds { result.kinds.now ≡ self.now.kinds.items }
+        ensures names { result.names.now ≡ self.now.names.items }
+        ensures processes { result.processes.now ≡ self.now.processes.items }
+        ensures vars { result.vars.now ≡ self.now.vars.items }
+        ensures messages { result.messages.now ≡ self.now.messages.items }
+    {
+        Model {
+            code: self.code.as_slice(),
+            kinds: self.kinds.as_slice(),
+            names: self.names.as_slice(),
+            processes: self.processes.as_slice(),
+            vars: self.vars.as_slice(),
+            messages: self.messages.as_slice(),
+        }
+    }
 }
 
 // A text that was taken, or refused.

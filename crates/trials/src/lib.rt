@@ -6,29 +6,13 @@ mod tests {
     use body::Process;
     use meaning::{Line, Message};
     use reader::form;
-    use sequential::{Outcome, Progress, Report, begin, run};
-
-    const NOTHING: Message = Message {
-        time: 0,
-        to: 0,
-        from: 0,
-        count: 0,
-        number: 0,
-    };
-
-    const BLANK: Line = Line {
-        time: 0,
-        process: 0,
-        number: 0,
-    };
+    use sequential::{Lent, Outcome, Program, Progress, Report, begin};
 
     // One process of kind 0, with so many variables.
     fn one(width: u32) -> [Process; 1] {
         [Process {
-            kind: 0,
             width,
-            seed: 0,
-            sent: 0,
+            ..Process::default()
         }]
     }
 
@@ -52,32 +36,26 @@ mod tests {
         outside: &[Message],
         end: u32,
     ) -> (Report, Progress) {
-        let mut row = [NOTHING; 4];
-        let mut sends = [NOTHING; 4];
-        let mut progress = Progress {
-            waiting: 0,
-            said: 0,
-        };
+        let mut row = [Message::default(); 4];
+        let mut sends = [Message::default(); 4];
+        let mut progress = Progress::default();
         let _ = begin(processes, &mut row, &mut progress, 1, outside);
-        let report = run(
-            code,
-            &[0],
+        let program = Program { code, kinds: &[0] };
+        let mut lent = Lent {
             processes,
             vars,
-            &mut row,
-            &mut sends,
+            row: &mut row,
             lines,
-            &mut progress,
-            end,
-            1000,
-        );
+            progress: &mut progress,
+        };
+        let report = lent.run(program, &mut sends, end, 1000);
         (report, progress)
     }
 
     // What `say` said first, where the message carries this number.
     fn said(code: &[u32], width: u32, number: u32) -> u32 {
         let mut vars = [0; 64];
-        let mut lines = [BLANK; 4];
+        let mut lines = [Line::default(); 4];
         let _ = play(
             code,
             &mut one(width),
@@ -144,14 +122,11 @@ mod tests {
     fn sends_past_the_end_of_time(rt: HostRuntime) {
         // send it to me after 4294967295: for a time beyond 2^32, which waits and is never handled
         let code = [4, 0, 4294967295, 3, 2, 0];
-        let mut row = [NOTHING; 4];
-        let mut sends = [NOTHING; 4];
-        let mut lines = [BLANK; 1];
+        let mut row = [Message::default(); 4];
+        let mut sends = [Message::default(); 4];
+        let mut lines = [Line::default(); 1];
         let mut processes = one(0);
-        let mut progress = Progress {
-            waiting: 0,
-            said: 0,
-        };
+        let mut progress = Progress::default();
         let begun = begin(
             &mut processes,
             &mut row,
@@ -160,18 +135,18 @@ mod tests {
             &[told(4294967294, 0, 5), told(4294967295, 1, 6)],
         );
         assert!(rt; begun.is_ok());
-        let report = run(
-            &code,
-            &[0],
-            &mut processes,
-            &mut [0; 64],
-            &mut row,
-            &mut sends,
-            &mut lines,
-            &mut progress,
-            4294967295,
-            1000,
-        );
+        let program = Program {
+            code: &code,
+            kinds: &[0],
+        };
+        let mut lent = Lent {
+            processes: &mut processes,
+            vars: &mut [0; 64],
+            row: &mut row,
+            lines: &mut lines,
+            progress: &mut progress,
+        };
+        let report = lent.run(program, &mut sends, 4294967295, 1000);
         assert_eq!(rt; report.outcome, Outcome::Ended);
         assert_eq!(rt; report.steps, 1);
         assert_eq!(rt; progress.waiting, 2);
@@ -184,7 +159,7 @@ mod tests {
     fn stops_where_the_row_is_full(rt: HostRuntime) {
         // again 4 / send it to me after 1 / end: four would wait in the place of one, of four places
         let code = [6, 6, 0, 4, 4, 0, 1, 3, 2, 0, 0];
-        let mut lines = [BLANK; 4];
+        let mut lines = [Line::default(); 4];
         let mut processes = one(0);
         let first = [told(0, 0, 5)];
         let (report, progress) = play(&code, &mut processes, &mut [0; 64], &mut lines, &first, 1);
@@ -202,7 +177,7 @@ mod tests {
     fn stops_where_lines_are_full(rt: HostRuntime) {
         // again it / say it / end, with four places
         let code = [6, 3, 2, 3, 2, 0, 0];
-        let mut lines = [BLANK; 4];
+        let mut lines = [Line::default(); 4];
         let (report, progress) = play(
             &code,
             &mut one(0),
@@ -245,46 +220,38 @@ mod tests {
             sent: 18446744073709551615,
         }];
         let mut row = [told(3, 0, 8); 4];
-        let mut lines = [BLANK; 1];
+        let mut lines = [Line::default(); 1];
         let mut progress = Progress {
             waiting: 1,
             said: 0,
         };
-        let report = run(
-            &[4, 0, 1, 3, 2, 0],
-            &[0],
-            &mut processes,
-            &mut [0; 64],
-            &mut row,
-            &mut [NOTHING; 4],
-            &mut lines,
-            &mut progress,
-            100,
-            1000,
-        );
+        let sends = Program {
+            code: &[4, 0, 1, 3, 2, 0],
+            kinds: &[0],
+        };
+        let stops = Program {
+            code: &[0],
+            kinds: &[0],
+        };
+        let mut lent = Lent {
+            processes: &mut processes,
+            vars: &mut [0; 64],
+            row: &mut row,
+            lines: &mut lines,
+            progress: &mut progress,
+        };
+        let report = lent.run(sends, &mut [Message::default(); 4], 100, 1000);
         assert_eq!(rt; report.outcome, Outcome::Count);
         assert_eq!(rt; report.steps, 0);
-        assert_eq!(rt; progress.waiting, 1);
-        let mut short = [NOTHING; 3];
-        let report = run(
-            &[0],
-            &[0],
-            &mut processes,
-            &mut [0; 64],
-            &mut row,
-            &mut short,
-            &mut lines,
-            &mut progress,
-            100,
-            1000,
-        );
+        assert_eq!(rt; lent.progress.waiting, 1);
+        let report = lent.run(stops, &mut [Message::default(); 3], 100, 1000);
         assert_eq!(rt; report.outcome, Outcome::Short);
     }
 
     #[test]
     fn handles_one_time_in_order(rt: HostRuntime) {
         // say it; messages of one time come by their count, however they were given
-        let mut lines = [BLANK; 4];
+        let mut lines = [Line::default(); 4];
         let outside = [
             told(3, 2, 30),
             told(3, 0, 10),

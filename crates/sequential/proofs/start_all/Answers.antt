@@ -6,7 +6,7 @@ use Rattle.sequential.proofs.start_all.Goals as goal
 
 pub loop-k-preserved : goal.loop-k-preserved
 loop-k-preserved c =
-    let seed : c.next_seed-seed.result ≡ next_seed (next_seed (c.args.luck + c.loop-k.k)) = c.next_seed-seed.ensures ∙ ap next_seed c.next_seed.ensures in
+    let seed : c.next_seed-process.result ≡ next_seed (next_seed (c.args.luck + c.loop-k.k)) = c.next_seed-process.ensures ∙ ap next_seed c.next_seed.ensures in
     one_started c.args.luck c.loop-k.k c.loop-k.processes _ (omega (arith, c.loop-k-test.true, c.loop-k.auto.processes))
     (λ i. record { kind = (get_or c.loop-k.processes c.loop-k.k absent).kind; width = (get_or c.loop-k.processes c.loop-k.k absent).width; seed = seed i; sent = 0 })
     ∙ c.loop-k.invariant

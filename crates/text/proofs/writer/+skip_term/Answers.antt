@@ -9,10 +9,10 @@ returns-then-fuel-eq0 t c =
     (elim c.then-fuel-eq0.branch [ then-fuel-eq0-via-then-fuel-eq0 w ↦ inl w.if-fuel-eq0.true | then-fuel-eq0-via-else-fuel-eq0+then-is_empty w ↦ inr w.if-is_empty.ensures ]))
 
 pub returns-in-Fixed : goal.returns-in-Fixed
-returns-in-Fixed t c = c.skip.ensures ∙ sym (rest_one [] c.args.fuel c.args.code.now c.skip-rest.result.now c.if-fuel-eq0.false c.if-is_empty.ensures c.skip-rest.ensures c.expr_op.result c.expr_op.ensures c.in-Fixed.is)
+returns-in-Fixed t c = c.skip.ensures ∙ sym (rest_one [] c.args.fuel c.args.code.now c.skip-rest.result.now c.if-fuel-eq0.false c.if-is_empty.ensures c.skip-rest.ensures c.from.result c.from.ensures c.in-Fixed.is)
 
 pub returns-in-It : goal.returns-in-It
-returns-in-It t c = sym (rest_none [] c.args.fuel c.args.code.now c.skip-rest.result.now c.if-fuel-eq0.false c.if-is_empty.ensures c.skip-rest.ensures c.expr_op.result c.expr_op.ensures c.in-It.is)
+returns-in-It t c = sym (rest_none [] c.args.fuel c.args.code.now c.skip-rest.result.now c.if-fuel-eq0.false c.if-is_empty.ensures c.skip-rest.ensures c.from.result c.from.ensures c.in-It.is)
 
 pub returns-in-Two : goal.returns-in-Two
 returns-in-Two t c = rest_two [] c.args.fuel c.args.code.now c.skip-rest.result.now c.if-fuel-eq0.false c.if-is_empty.ensures c.skip-rest.ensures c.in-Two.ensures c.skip_term.ensures c.skip_term-in-Two.ensures

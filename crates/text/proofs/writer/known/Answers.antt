@@ -1,20 +1,9 @@
-use Rattle.std.proofs.Common.{◌++◌, map, take, sym, refl, ap, ◌∙◌, append-nil}
-use Rattle.checker.specs.Words.{unpack}
-use Rattle.text.proofs.Texts.{names_end, names_more, names_all}
+use Rattle.std.proofs.Common.{sym, ◌∙◌}
+use Rattle.text.proofs.Texts.{known_some, known_none}
 use Rattle.text.proofs.writer.known.Goals as goal
 
-pub loop-k-init : goal.loop-k-init
-loop-k-init c = refl
+pub returns-in-Some : goal.returns-in-Some
+returns-in-Some c = known_some c.args.names.now c.in-Some.k (sym c.first_unused.ensures ∙ c.in-Some.is)
 
-pub loop-k-preserved : goal.loop-k-preserved
-loop-k-preserved c = names_more c.args.names.now c.loop-k.k c.loop-k-test.true c.if-names-k-eq0.false ∙ c.loop-k.invariant
-
-pub returns : goal.returns
-returns c = sym (names_all c.args.names.now c.loop-k.k c.loop-k-test.false) ∙ c.loop-k.invariant
-
-pub returns-then-names-k-eq0 : goal.returns-then-names-k-eq0
-returns-then-names-k-eq0 c =
-    ap (map unpack) c.first_names.ensures
-    ∙ sym (ap (λ ys. map unpack (take c.loop-k.k c.args.names.now) ++ ys) (names_end c.args.names.now c.loop-k.k c.loop-k-test.true c.if-names-k-eq0.true)
-    ∙ append-nil (map unpack (take c.loop-k.k c.args.names.now)))
-    ∙ c.loop-k.invariant
+pub returns-in-None : goal.returns-in-None
+returns-in-None c = known_none c.args.names.now (sym c.first_unused.ensures ∙ c.in-None.is)

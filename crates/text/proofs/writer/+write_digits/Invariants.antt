@@ -1,4 +1,0 @@
-use Rattle.text.proofs.writer.+write_digits.Given as goal
-
-abbrev pub decreases-write_digits : goal.decreases-write_digits
-decreases-write_digits l = l.k

@@ -1,7 +1,0 @@
-use Rattle.std.proofs.Common.{◌-◌}
-use Rattle.checker.specs.Words.{unpack, unpack_upto}
-use Rattle.text.specs.Written.{Ahead}
-use Rattle.text.proofs.writer.write_name.Given as goal
-
-abbrev pub invariant-loop-turn : goal.invariant-loop-turn
-invariant-loop-turn l = Ahead (unpack l.packed) (unpack_upto (8 - l._turn) l.p) l.initial.end l.limit l.initial.out l.out l.end
