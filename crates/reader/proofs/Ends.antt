@@ -1,14 +1,11 @@
 -- Where expressions end, as equations on ends alone: what is said of the parts says it of the whole.
-use Rattle.std.proofs.Common.{sym, ◌≡◌, ℕ, zero, suc, ◌+◌, ◌-◌, ◌<◌, sub-one, Bool, true, false, cond, not, eqb, List, [], ◌∷◌, length, codes, refl, ap, ◌∙◌, arith}
-use Rattle.std.proofs.lemmas.Bool.{or_left, and_from, and_parts}
-use Rattle.grammar.specs.Syntax.{Term, number, word, two, newline, is_letter, is_operand, is_name, is_word, same, all, among, reserved}
+use Rattle.std.proofs.Common.{sym, ◌≡◌, ℕ, zero, suc, ◌+◌, ◌-◌, ◌<◌, sub-one, Bool, true, false, cond, eqb, List, [], ◌∷◌, length, codes, refl, ap, ◌∙◌, arith}
+use Rattle.grammar.specs.Syntax.{Term, number, word, two, newline, is_letter, is_operand}
 use Rattle.grammar.specs.Parse.{Got, got, bad, and_then, expect, checked, read_word, read_number, read_sign, read_plain, read_two, read_term, read_expr, read_last}
-use Rattle.words.specs.declared.Word.{Word}
-use Rattle.words.specs.declared.Word.TheVariants.{Kind, Say, Send, To, After, If, Else, End, Again, Thing, Message, Draw, It, Me, Now, Name}
 use Rattle.words.specs.Reads.{map_got, first_is}
-use Rattle.words.specs.Words.{word_of, spelling, unpack}
-use Rattle.words.proofs.Packs.{named, word_good, spelled_again, name_named}
-use Rattle.reader.specs.Rests.{forget, read_head, read_sent, stands_for_number}
+use Rattle.words.specs.Words.{word_of, spelling, stands_for_number}
+use Rattle.words.proofs.Packs.{word_good, spelled_again, operand_read}
+use Rattle.reader.specs.Rests.{forget, read_head, read_sent}
 
 -- One read after the other.
 pub forget_then : {A B : Type 0} (g : Got A) (f : A → List ℕ → Got B) (h : List ℕ → Got (Unit {0})) → ((a : A) (c : List ℕ) → forget (f a c) ≡ h c) → forget (and_then g f) ≡ and_then (forget g) (λ _ c. h c)
@@ -43,38 +40,18 @@ plain_ends (b ∷ c) = both (is_letter b)
     both true = forget_last (checked is_operand (read_word (b ∷ c))) word
     both false = forget_last (read_number (b ∷ c)) number
 
-pub name_operand : (w : List ℕ) → is_name w ≡ true → is_operand w ≡ true
-name_operand w n =
-    let p = and_parts (is_word w) _ n in and_from (is_word w) _ p.0 (or_left (not (among w reserved)) _ p.1)
-
 -- A word that was read, where an operand is wanted.
 pub operand_ends : (bs : List ℕ) → forget (checked is_operand (read_word bs)) ≡ and_then (map_got word_of (read_word bs)) (λ k r. cond (stands_for_number k) (got tt r) (bad r))
-unfolding same all among
 operand_ends bs = go (read_word bs) refl
   where
-    each : (k : Word) (r : List ℕ) → is_name (spelling k) ≡ named k → forget (cond (is_operand (spelling k)) (got (spelling k) r) (bad r)) ≡ cond (stands_for_number k) (got tt r) (bad r)
-    each Kind r n = refl
-    each Say r n = refl
-    each Send r n = refl
-    each To r n = refl
-    each After r n = refl
-    each If r n = refl
-    each Else r n = refl
-    each End r n = refl
-    each Again r n = refl
-    each Thing r n = refl
-    each Message r n = refl
-    each Draw r n = refl
-    each It r n = refl
-    each Me r n = refl
-    each Now r n = refl
-    each (Name p) r n = ap (λ o. forget (cond o (got (unpack p) r) (bad r))) (name_operand (unpack p) n)
+    left_out : (b : Bool) (w r : List ℕ) → forget (cond b (got w r) (bad r)) ≡ cond b (got tt r) (bad r)
+    left_out true w r = refl
+    left_out false w r = refl
 
     go : (g : Got (List ℕ)) → read_word bs ≡ g → forget (checked is_operand g) ≡ and_then (map_got word_of g) (λ k r. cond (stands_for_number k) (got tt r) (bad r))
     go (got w r) e =
-        let good = word_good bs w r e in
-        let s : w ≡ spelling (word_of w) = sym (spelled_again w good) in
-        ap (λ v. forget (cond (is_operand v) (got v r) (bad r))) s ∙ each (word_of w) r (ap is_name (sym s) ∙ name_named w good)
+        let s : w ≡ spelling (word_of w) = sym (spelled_again w (word_good bs w r e)) in
+        left_out (is_operand w) w r ∙ ap (λ b. cond b (got tt r) (bad r)) (ap is_operand s ∙ operand_read bs (word_of w) r (ap (map_got word_of) e))
     go (bad r) e = refl
 
 two_ends : (go : List ℕ → Got Term) (bs : List ℕ) →

@@ -1,6 +1,6 @@
 -- Where lines end, and how they close, by the word in front of each.
-use Rattle.std.proofs.Common.{◌≡◌, ℕ, zero, suc, ◌-◌, ◌<◌, sub-one, Bool, true, false, cond, List, [], ◌∷◌, codes, sym, refl, ap, ◌∙◌, arith}
-use Rattle.std.proofs.lemmas.Bool.{cond-true, cond-false, or_parts, and_parts, not-true}
+use Rattle.std.proofs.Common.{not, ◌≡◌, ℕ, zero, suc, ◌-◌, ◌<◌, sub-one, Bool, true, false, cond, List, [], ◌∷◌, codes, sym, refl, ap, ◌∙◌, arith}
+use Rattle.std.proofs.lemmas.Bool.{cond-true, cond-false, or_parts, and_parts, not-true, and_from, or_left}
 use Rattle.grammar.specs.Syntax.{newline, is_letter, is_operand, is_name, is_word, all, same, among, reserved, Term, Lines}
 use Rattle.grammar.specs.Parse.{Got, got, bad, and_then, expect, read_word, read_expr, read_term, read_last, read_lines, read_by, read_assign, before_block, Block, Close, by_end, by_else}
 use Rattle.words.specs.declared.Word.{Word}
@@ -9,7 +9,10 @@ use Rattle.words.specs.Reads.{map_got}
 use Rattle.words.specs.Words.{word_of, spelling, unpack}
 use Rattle.words.proofs.Packs.{named, word_good, spelled_again, name_named}
 use Rattle.reader.specs.Rests.{forget, shape, read_head, read_drawn, read_value, read_put, read_simple}
-use Rattle.reader.proofs.Ends.{name_operand}
+
+name_operand : (w : List ℕ) → is_name w ≡ true → is_operand w ≡ true
+name_operand w n =
+    let p = and_parts (is_word w) _ n in and_from (is_word w) _ p.0 (or_left (not (among w reserved)) _ p.1)
 
 shape_then : {A : Type 0} (g : Got A) (f : A → List ℕ → Got Block) (h : List ℕ → Got Close) → ((a : A) (c : List ℕ) → shape (f a c) ≡ h c) → shape (and_then g f) ≡ and_then (forget g) (λ _ c. h c)
 shape_then (got a c) f h e = e a c

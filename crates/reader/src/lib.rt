@@ -6,8 +6,9 @@ ghost use Rattle.std.specs.Prelude.{◌≡◌, MatchResult};
 ghost use Rattle.grammar.specs.Parse.{read_plain, read_term, read_expr, read_last, read_lines, read_upto, read_row, read_kind, read_thing, read_note, read_notes, read_things, read_kinds, read_name, read_number, read_word, checked};
 ghost use Rattle.grammar.specs.Syntax.{Text, IsText, is_operand};
 ghost use Rattle.words.specs.Reads.{behind};
+ghost use Rattle.words.specs.Words.{stands_for_number};
 ghost use Rattle.reader.specs.Form.{StopsAt};
-ghost use Rattle.reader.specs.Rests.{forget, read_head, read_sent, read_put, read_simple, shape, closed, whole, stands_for_number};
+ghost use Rattle.reader.specs.Rests.{forget, read_head, read_sent, read_put, read_simple, shape, closed, whole};
 
 use words::{Word, begins_with_letter, read_literal, read_name, read_number, read_sign, read_word};
 
