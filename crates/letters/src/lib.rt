@@ -261,6 +261,7 @@ fn read_printed(bytes: &[u8]) -> Option<Letter>
 }
 
 // The letter that all the bytes are.
+#[tactic(auto, using(crate::proofs::Reading::no_tag, crate::proofs::Reading::no_byte), unfolding(crate::specs::Letters::letter_of))]
 fn read_whole(bytes: &[u8]) -> Option<Letter>
     ensures { result ≡ letter_of bytes.now }
 {
@@ -291,11 +292,13 @@ pub fn read_so()
 {}
 
 // No two letters have the same bytes.
+#[tactic(auto, using(crate::proofs::Reading::no_two))]
 pub fn no_two()
     ensures { NoTwo }
 {}
 
 // A letter has at most 1,024 bytes.
+#[tactic(auto, using(crate::proofs::Reading::at_most))]
 pub fn at_most()
     ensures { AtMost }
 {}

@@ -47,6 +47,7 @@ impl Wire for u32 {
 
     ghost fits = { λ n. nat_lt n (2 ^ 32) };
 
+    #[tactic(auto, using(crate::proofs::Numbers::number_written))]
     fn write(self, out: &mut [u8], at: usize) {
         out[at..at + Self::SIZE].copy_from_slice(&self.to_le_bytes());
     }
@@ -69,6 +70,7 @@ impl Wire for u64 {
 
     ghost fits = { λ n. nat_lt n (2 ^ 64) };
 
+    #[tactic(auto, using(crate::proofs::Numbers::number_written))]
     fn write(self, out: &mut [u8], at: usize) {
         out[at..at + Self::SIZE].copy_from_slice(&self.to_le_bytes());
     }

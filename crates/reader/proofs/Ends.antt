@@ -1,14 +1,11 @@
 -- Where expressions end, as equations on ends alone: what is said of the parts says it of the whole.
-use Rattle.std.proofs.Common.{◌≡◌, ℕ, zero, suc, ◌+◌, Bool, true, false, cond, not, eqb, List, [], ◌∷◌, length, codes, refl, ap, ◌∙◌, arith}
-use Rattle.std.proofs.lemmas.Bool.{or_left, and_from, and_parts}
-use Rattle.grammar.specs.Syntax.{Term, number, word, two, newline, is_letter, is_operand, is_name, is_word, same, all, among, reserved}
+use Rattle.std.proofs.Common.{sym, ◌≡◌, ℕ, zero, suc, ◌+◌, ◌-◌, ◌<◌, sub-one, Bool, true, false, cond, eqb, List, [], ◌∷◌, length, codes, refl, ap, ◌∙◌, arith}
+use Rattle.grammar.specs.Syntax.{Term, number, word, two, newline, is_letter, is_operand}
 use Rattle.grammar.specs.Parse.{Got, got, bad, and_then, expect, checked, read_word, read_number, read_sign, read_plain, read_two, read_term, read_expr, read_last}
-use Rattle.words.specs.declared.Word.{Word}
-use Rattle.words.specs.declared.Word.TheVariants.{Kind, Say, Send, To, After, If, Else, End, Again, Thing, Message, Draw, It, Me, Now, Name}
 use Rattle.words.specs.Reads.{map_got, first_is}
-use Rattle.words.specs.Words.{word_of, spelling, unpack}
-use Rattle.words.proofs.Packs.{named, read_back}
-use Rattle.reader.specs.Rests.{forget, read_head, read_sent, stands_for_number}
+use Rattle.words.specs.Words.{word_of, spelling, stands_for_number}
+use Rattle.words.proofs.Packs.{word_good, spelled_again, operand_read}
+use Rattle.reader.specs.Rests.{forget, read_head, read_sent}
 
 -- One read after the other.
 pub forget_then : {A B : Type 0} (g : Got A) (f : A → List ℕ → Got B) (h : List ℕ → Got (Unit {0})) → ((a : A) (c : List ℕ) → forget (f a c) ≡ h c) → forget (and_then g f) ≡ and_then (forget g) (λ _ c. h c)
@@ -43,34 +40,19 @@ plain_ends (b ∷ c) = both (is_letter b)
     both true = forget_last (checked is_operand (read_word (b ∷ c))) word
     both false = forget_last (read_number (b ∷ c)) number
 
-pub name_operand : (w : List ℕ) → is_name w ≡ true → is_operand w ≡ true
-name_operand w n =
-    let p = and_parts (is_word w) _ n in and_from (is_word w) _ p.0 (or_left (not (among w reserved)) _ p.1)
-
 -- A word that was read, where an operand is wanted.
-pub operand_ends : (bs : List ℕ) (k : Word) (r : List ℕ) → map_got word_of (read_word bs) ≡ got k r → forget (checked is_operand (read_word bs)) ≡ cond (stands_for_number k) (got tt r) (bad r)
-unfolding same all among
-operand_ends bs k r e =
-    let b = read_back bs k r e in
-    ap (λ g. forget (checked is_operand g)) b.0 ∙ each k b.1
+pub operand_ends : (bs : List ℕ) → forget (checked is_operand (read_word bs)) ≡ and_then (map_got word_of (read_word bs)) (λ k r. cond (stands_for_number k) (got tt r) (bad r))
+operand_ends bs = go (read_word bs) refl
   where
-    each : (k : Word) → is_name (spelling k) ≡ named k → forget (cond (is_operand (spelling k)) (got (spelling k) r) (bad r)) ≡ cond (stands_for_number k) (got tt r) (bad r)
-    each Kind n = refl
-    each Say n = refl
-    each Send n = refl
-    each To n = refl
-    each After n = refl
-    each If n = refl
-    each Else n = refl
-    each End n = refl
-    each Again n = refl
-    each Thing n = refl
-    each Message n = refl
-    each Draw n = refl
-    each It n = refl
-    each Me n = refl
-    each Now n = refl
-    each (Name p) n = ap (λ o. forget (cond o (got (unpack p) r) (bad r))) (name_operand (unpack p) n)
+    left_out : (b : Bool) (w r : List ℕ) → forget (cond b (got w r) (bad r)) ≡ cond b (got tt r) (bad r)
+    left_out true w r = refl
+    left_out false w r = refl
+
+    go : (g : Got (List ℕ)) → read_word bs ≡ g → forget (checked is_operand g) ≡ and_then (map_got word_of g) (λ k r. cond (stands_for_number k) (got tt r) (bad r))
+    go (got w r) e =
+        let s : w ≡ spelling (word_of w) = sym (spelled_again w (word_good bs w r e)) in
+        left_out (is_operand w) w r ∙ ap (λ b. cond b (got tt r) (bad r)) (ap is_operand s ∙ operand_read bs (word_of w) r (ap (map_got word_of) e))
+    go (bad r) e = refl
 
 two_ends : (go : List ℕ → Got Term) (bs : List ℕ) →
     forget (read_two go bs)
@@ -85,15 +67,16 @@ unfolding read_term
 term_none zero bs h = refl
 term_none (suc n) bs h = absurd (omega arith)
 
-pub term_more : (n m : ℕ) (bs : List ℕ) → n ≡ suc m →
+pub term_more : (n : ℕ) (bs : List ℕ) → 0 < n →
     forget (read_term n bs)
     ≡ either (expect (codes "(") bs)
-    (λ c. and_then (forget (read_term m c)) (λ _ c. and_then (forget (expect (codes " ") c)) (λ _ d. and_then (forget (read_sign d)) (λ _ e. and_then (forget (expect (codes " ") e)) (λ _ f.
-    and_then (forget (read_term m f)) (λ _ g. forget (expect (codes ")") g)))))))
+    (λ c. and_then (forget (read_term (n - 1) c)) (λ _ c. and_then (forget (expect (codes " ") c)) (λ _ d. and_then (forget (read_sign d)) (λ _ e. and_then (forget (expect (codes " ") e)) (λ _ f.
+    and_then (forget (read_term (n - 1) f)) (λ _ g. forget (expect (codes ")") g)))))))
     (forget (read_plain bs))
 unfolding read_term expect
-term_more n m [] h = ap (λ k. forget (read_term k [])) h
-term_more n m (b ∷ c) h = ap (λ k. forget (read_term k (b ∷ c))) h ∙ both (eqb b 40)
+term_more zero bs h = absurd (omega arith)
+term_more (suc m) [] h = refl
+term_more (suc m) (b ∷ c) h = rw sub-one (both (eqb b 40))
   where
     both : (x : Bool) →
         forget (cond x (read_two (read_term m) c) (read_plain (b ∷ c)))

@@ -1,15 +1,18 @@
 -- Where lines end, and how they close, by the word in front of each.
-use Rattle.std.proofs.Common.{◌≡◌, ℕ, zero, suc, Bool, true, false, cond, List, [], ◌∷◌, codes, sym, refl, ap, ◌∙◌, arith}
-use Rattle.std.proofs.lemmas.Bool.{cond-true, cond-false, or_parts, and_parts, not-true}
+use Rattle.std.proofs.Common.{not, ◌≡◌, ℕ, zero, suc, ◌-◌, ◌<◌, sub-one, Bool, true, false, cond, List, [], ◌∷◌, codes, sym, refl, ap, ◌∙◌, arith}
+use Rattle.std.proofs.lemmas.Bool.{cond-true, cond-false, or_parts, and_parts, not-true, and_from, or_left}
 use Rattle.grammar.specs.Syntax.{newline, is_letter, is_operand, is_name, is_word, all, same, among, reserved, Term, Lines}
 use Rattle.grammar.specs.Parse.{Got, got, bad, and_then, expect, read_word, read_expr, read_term, read_last, read_lines, read_by, read_assign, before_block, Block, Close, by_end, by_else}
 use Rattle.words.specs.declared.Word.{Word}
 use Rattle.words.specs.declared.Word.TheVariants.{Kind, Say, Send, To, After, If, Else, End, Again, Thing, Message, Draw, It, Me, Now, Name}
 use Rattle.words.specs.Reads.{map_got}
 use Rattle.words.specs.Words.{word_of, spelling, unpack}
-use Rattle.words.proofs.Packs.{named, read_back, read_not, word_good, spelled_again, name_named}
+use Rattle.words.proofs.Packs.{named, word_good, spelled_again, name_named}
 use Rattle.reader.specs.Rests.{forget, shape, read_head, read_drawn, read_value, read_put, read_simple}
-use Rattle.reader.proofs.Ends.{name_operand}
+
+name_operand : (w : List ℕ) → is_name w ≡ true → is_operand w ≡ true
+name_operand w n =
+    let p = and_parts (is_word w) _ n in and_from (is_word w) _ p.0 (or_left (not (among w reserved)) _ p.1)
 
 shape_then : {A : Type 0} (g : Got A) (f : A → List ℕ → Got Block) (h : List ℕ → Got Close) → ((a : A) (c : List ℕ) → shape (f a c) ≡ h c) → shape (and_then g f) ≡ and_then (forget g) (λ _ c. h c)
 shape_then (got a c) f h e = e a c
@@ -200,14 +203,14 @@ unfolding read_lines
 lines_none zero els bs h = refl
 lines_none (suc n) els bs h = absurd (omega arith)
 
-pub lines_no_word : (n m : ℕ) (els : Bool) (bs r : List ℕ) → n ≡ suc m → map_got word_of (read_word bs) ≡ bad r → shape (read_lines n els bs) ≡ bad r
+pub lines_by : (n : ℕ) (els : Bool) (bs : List ℕ) → 0 < n → shape (read_lines n els bs) ≡ and_then (map_got word_of (read_word bs)) (by_word (λ a c. shape (read_lines (n - 1) a c)) els)
 unfolding read_lines
-lines_no_word n m els bs r h e =
-    ap (λ i. shape (read_lines i els bs)) h ∙ ap (λ g. shape (and_then g (read_by (read_lines m) els))) (read_not word_of (read_word bs) r e)
-
-pub lines_by : (n m : ℕ) (els : Bool) (bs : List ℕ) (k : Word) (r : List ℕ) → n ≡ suc m → map_got word_of (read_word bs) ≡ got k r →
-    shape (read_lines n els bs) ≡ by_word (λ a c. shape (read_lines m a c)) els k r
-unfolding read_lines
-lines_by n m els bs k r h e =
-    let b = read_back bs k r e in
-    ap (λ i. shape (read_lines i els bs)) h ∙ ap (λ g. shape (and_then g (read_by (read_lines m) els))) b.0 ∙ by_shape (read_lines m) els r k b.1
+lines_by zero els bs h = absurd (omega arith)
+lines_by (suc m) els bs h = rw sub-one (go (read_word bs) refl)
+  where
+    go : (g : Got (List ℕ)) → read_word bs ≡ g → shape (and_then g (read_by (read_lines m) els)) ≡ and_then (map_got word_of g) (by_word (λ a c. shape (read_lines m a c)) els)
+    go (got w r) e =
+        let good = word_good bs w r e in
+        let s : w ≡ spelling (word_of w) = sym (spelled_again w good) in
+        ap (λ v. shape (read_by (read_lines m) els v r)) s ∙ by_shape (read_lines m) els r (word_of w) (ap is_name (sym s) ∙ name_named w good)
+    go (bad r) e = refl

@@ -1,9 +1,9 @@
 -- What reading from the front of a text answers, where what was read does not matter: the bytes behind it, or those at which no text goes on so.
-use Rattle.std.specs.Prelude.{ℕ, Bool, true, false, cond, List, [], Ok, Err, codes, Result}
+use Rattle.std.specs.Prelude.{ℕ, cond, List, [], Ok, Err, codes, Result}
 use Rattle.std.specs.Borrow.{Bor}
 use Rattle.words.specs.declared.Word.{Word}
-use Rattle.words.specs.declared.Word.TheVariants.{Say, Send, Draw, It, Me, Now, Name}
-use Rattle.words.specs.Words.{word_of}
+use Rattle.words.specs.declared.Word.TheVariants.{Say, Send, Draw, Name}
+use Rattle.words.specs.Words.{word_of, stands_for_number}
 use Rattle.words.specs.Reads.{map_got, first_is}
 use Rattle.grammar.specs.Syntax.{Term, newline, is_letter}
 use Rattle.reader.specs.declared.Closing.{Closing}
@@ -18,14 +18,6 @@ forget (bad bs) = bad bs
 abbrev pub whole : Result (Unit {0}) (Bor (List ℕ)) → Got (Unit {0})
 whole (Ok u) = got tt []
 whole (Err rest) = bad rest.now
-
--- Whether it may stand where a number is wanted.
-abbrev pub stands_for_number : Word → Bool
-stands_for_number It = true
-stands_for_number Me = true
-stands_for_number Now = true
-stands_for_number (Name n) = true
-stands_for_number k = false
 
 -- A space and an expression that ends the line.
 abbrev pub read_head : List ℕ → Got Term

@@ -6,10 +6,14 @@ ghost use Rattle.std.specs.Prelude.{◌≡◌, MatchResult};
 ghost use Rattle.grammar.specs.Parse.{read_plain, read_term, read_expr, read_last, read_lines, read_upto, read_row, read_kind, read_thing, read_note, read_notes, read_things, read_kinds, read_name, read_number, read_word, checked};
 ghost use Rattle.grammar.specs.Syntax.{Text, IsText, is_operand};
 ghost use Rattle.words.specs.Reads.{behind};
+ghost use Rattle.words.specs.Words.{stands_for_number};
 ghost use Rattle.reader.specs.Form.{StopsAt};
-ghost use Rattle.reader.specs.Rests.{forget, read_head, read_sent, read_put, read_simple, shape, closed, whole, stands_for_number};
+ghost use Rattle.reader.specs.Rests.{forget, read_head, read_sent, read_put, read_simple, shape, closed, whole};
 
 use words::{Word, begins_with_letter, read_literal, read_name, read_number, read_sign, read_word};
+
+// The most names behind a kind's.
+const NAMES: usize = 64;
 
 // Whether a word may stand where a number is wanted.
 fn stands_for_number(word: Word) -> bool
@@ -19,6 +23,7 @@ fn stands_for_number(word: Word) -> bool
 }
 
 // A name, it, me or now.
+#[tactic(auto, using(crate::proofs::Ends::operand_ends))]
 fn read_operand<'a>(text: &'a [u8]) -> Result<&'a [u8], &'a [u8]>
     ensures { forget (checked is_operand (read_word text.now)) ≡ behind result }
 {
@@ -31,6 +36,7 @@ fn read_operand<'a>(text: &'a [u8]) -> Result<&'a [u8], &'a [u8]>
 }
 
 // A number or a word that stands for one.
+#[tactic(auto, using(crate::proofs::Ends::plain_ends))]
 fn read_plain<'a>(text: &'a [u8]) -> Result<&'a [u8], &'a [u8]>
     ensures { forget (read_plain text.now) ≡ behind result }
 {
@@ -42,6 +48,7 @@ fn read_plain<'a>(text: &'a [u8]) -> Result<&'a [u8], &'a [u8]>
 }
 
 // An expression, at most so deep.
+#[tactic(auto, using(crate::proofs::Ends::term_none, crate::proofs::Ends::term_more))]
 fn read_term<'a>(text: &'a [u8], depth: usize) -> Result<&'a [u8], &'a [u8]>
     ensures { forget (read_term depth text.now) ≡ behind result }
 {
@@ -58,6 +65,7 @@ fn read_term<'a>(text: &'a [u8], depth: usize) -> Result<&'a [u8], &'a [u8]>
 }
 
 // An expression, however deep.
+#[tactic(auto, using(crate::proofs::Ends::expr_ends))]
 fn read_expr<'a>(text: &'a [u8]) -> Result<&'a [u8], &'a [u8]>
     ensures { forget (read_expr text.now) ≡ behind result }
 {
@@ -65,6 +73,7 @@ fn read_expr<'a>(text: &'a [u8]) -> Result<&'a [u8], &'a [u8]>
 }
 
 // An expression that ends the line.
+#[tactic(auto, using(crate::proofs::Ends::last_ends))]
 fn read_last<'a>(text: &'a [u8]) -> Result<&'a [u8], &'a [u8]>
     ensures { forget (read_last text.now) ≡ behind result }
 {
@@ -72,6 +81,7 @@ fn read_last<'a>(text: &'a [u8]) -> Result<&'a [u8], &'a [u8]>
 }
 
 // A space and an expression that ends the line.
+#[tactic(auto, using(crate::proofs::Ends::head_ends))]
 fn read_head<'a>(text: &'a [u8]) -> Result<&'a [u8], &'a [u8]>
     ensures { forget (read_head text.now) ≡ behind result }
 {
@@ -79,6 +89,7 @@ fn read_head<'a>(text: &'a [u8]) -> Result<&'a [u8], &'a [u8]>
 }
 
 // What stands behind send: what, to whom, after how long.
+#[tactic(auto, using(crate::proofs::Ends::sent_ends))]
 fn read_sent<'a>(text: &'a [u8]) -> Result<&'a [u8], &'a [u8]>
     ensures { forget (read_sent text.now) ≡ behind result }
 {
@@ -123,6 +134,7 @@ enum Closing {
 }
 
 // Lines up to the end that closes them, or the else, if that may be; at most so many.
+#[tactic(auto, using(crate::proofs::Lines::lines_none, crate::proofs::Lines::lines_by, crate::proofs::Lines::by_other))]
 fn read_lines<'a>(
     text: &'a [u8],
     most: usize,
@@ -156,6 +168,7 @@ fn read_lines<'a>(
 }
 
 // Names, each after a space, up to the end of the line; at most so many.
+#[tactic(auto, using(crate::proofs::Items::names_none, crate::proofs::Items::names_more))]
 fn read_names<'a>(text: &'a [u8], most: usize) -> Result<&'a [u8], &'a [u8]>
     ensures { forget (read_upto read_name most text.now) ≡ behind result }
 {
@@ -171,6 +184,7 @@ fn read_names<'a>(text: &'a [u8], most: usize) -> Result<&'a [u8], &'a [u8]>
 
 // Numbers, each after a space, up to the end of the line; at most so many. One function for both rows would take a type for each kind of item, with
 // a trait that says how it is read, and be longer than the two, which also differ behind the last item.
+#[tactic(auto, using(crate::proofs::Items::numbers_none, crate::proofs::Items::numbers_more))]
 fn read_numbers<'a>(text: &'a [u8], most: usize) -> Result<&'a [u8], &'a [u8]>
     ensures { forget (read_row read_number most text.now) ≡ behind result }
 {
@@ -185,16 +199,18 @@ fn read_numbers<'a>(text: &'a [u8], most: usize) -> Result<&'a [u8], &'a [u8]>
 }
 
 // A kind, behind its first word.
+#[tactic(auto, using(crate::proofs::Items::kind_ends))]
 fn read_kind<'a>(text: &'a [u8]) -> Result<&'a [u8], &'a [u8]>
     ensures { forget (read_kind text.now) ≡ behind result }
 {
     let (_, names) = read_name(text)?;
-    let lines = read_names(names, 64)?;
+    let lines = read_names(names, NAMES)?;
     let (_, rest) = read_lines(lines, lines.len() + 1, false)?;
     Ok(rest)
 }
 
 // A thing, behind its first word.
+#[tactic(auto, using(crate::proofs::Items::thing_ends))]
 fn read_thing<'a>(text: &'a [u8]) -> Result<&'a [u8], &'a [u8]>
     ensures { forget (read_thing text.now) ≡ behind result }
 {
@@ -213,6 +229,7 @@ fn read_note<'a>(text: &'a [u8]) -> Result<&'a [u8], &'a [u8]>
 }
 
 // Messages up to the end of the bytes.
+#[tactic(auto, using(crate::proofs::Items::notes_none, crate::proofs::Items::notes_more))]
 fn read_notes<'a>(text: &'a [u8], most: usize) -> Result<(), &'a [u8]>
     ensures { forget (read_notes most text.now) ≡ whole result }
 {
@@ -227,6 +244,7 @@ fn read_notes<'a>(text: &'a [u8], most: usize) -> Result<(), &'a [u8]>
 }
 
 // Things, and the messages behind them.
+#[tactic(auto, using(crate::proofs::Items::things_none, crate::proofs::Items::things_more, std::proofs::lemmas::Bool::ne_eqb))]
 fn read_things<'a>(text: &'a [u8], most: usize) -> Result<(), &'a [u8]>
     ensures { forget (read_things most text.now) ≡ whole result }
 {
@@ -245,6 +263,7 @@ fn read_things<'a>(text: &'a [u8], most: usize) -> Result<(), &'a [u8]>
 
 // Kinds, and the things and messages behind them. One function for things and kinds would take what it reads and what it goes on with, each
 // with the grammar's words for it, and be longer than the two.
+#[tactic(auto, using(crate::proofs::Items::kinds_none, crate::proofs::Items::kinds_more, std::proofs::lemmas::Bool::ne_eqb))]
 fn read_kinds<'a>(text: &'a [u8], most: usize) -> Result<(), &'a [u8]>
     ensures { forget (read_kinds most text.now) ≡ whole result }
 {

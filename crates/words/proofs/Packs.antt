@@ -1,8 +1,8 @@
 -- Packed words: they fit 64 bits, differ where words do, and come back unpacked.
-use Rattle.std.proofs.Common.{◌≡◌, ℕ, zero, suc, ◌+◌, ◌*◌, ◌/◌, ◌%◌, ◌<◌, ◌≤◌, Bool, true, false, cond, eqb, leb, ◌⊎◌, List, [], ◌∷◌, length, get_or, codes, sym, refl, ap, ◌∙◌, ap₂, subst, inl, inr, arith}
+use Rattle.std.proofs.Common.{◌≡◌, ℕ, zero, suc, ◌+◌, ◌*◌, ◌/◌, ◌%◌, ◌<◌, ◌≤◌, Bool, true, false, not, cond, eqb, leb, ◌⊎◌, List, [], ◌∷◌, length, get_or, codes, sym, refl, ap, ◌∙◌, ap₂, subst, inl, inr, arith}
 use Rattle.std.proofs.lemmas.Nat.{div-add-mod', div-mul-add, mod-mul-add, div_below}
 use Rattle.std.proofs.lemmas.Bool.{eq-eqb, ne_eqb, cases_eq, eqb-true, eqb-false, both_ways, and_parts, and_from, leb-true, or_cases, cond_both, or_from, or_left, not_from_false, cond-true, cond-false, cases_Bool}
-use Rattle.grammar.specs.Syntax.{all, same, in_word, is_letter, is_digit, among, reserved, is_word, is_name}
+use Rattle.grammar.specs.Syntax.{all, same, in_word, is_letter, is_digit, among, reserved, is_word, is_name, is_operand}
 use Rattle.grammar.specs.Parse.{Got, got, bad, read_word, read_name, checked}
 use Rattle.grammar.proofs.Leaves.{words, bytes, passes}
 use Rattle.grammar.proofs.Reading.{Outcome}
@@ -13,7 +13,7 @@ use Rattle.std.specs.Int.{from_le_bytes}
 use Rattle.std.proofs.Common.{w64, replicate}
 use borrow.Rule.Slice.PartMut.{put_mid}
 use Rattle.words.specs.Reads.{map_got}
-use Rattle.words.specs.Words.{pack, unpack, unpack_upto, word_by, word_of, spelling}
+use Rattle.words.specs.Words.{pack, unpack, unpack_upto, word_by, word_of, spelling, stands_for_number}
 
 -- 256 to the n.
 abbrev most : ℕ → ℕ
@@ -278,6 +278,54 @@ no_name_read bs k r e h =
     unnamed Me h = refl
     unnamed Now h = refl
     unnamed (Name p) h = absurd (h p refl)
+
+-- A word that was read may stand for a number by what it was read as.
+word_operand : (k : Word) → named k ≡ false → is_operand (spelling k) ≡ stands_for_number k
+unfolding all among same
+word_operand Kind h = refl
+word_operand Say h = refl
+word_operand Send h = refl
+word_operand To h = refl
+word_operand After h = refl
+word_operand If h = refl
+word_operand Else h = refl
+word_operand End h = refl
+word_operand Again h = refl
+word_operand Thing h = refl
+word_operand Message h = refl
+word_operand Draw h = refl
+word_operand It h = refl
+word_operand Me h = refl
+word_operand Now h = refl
+word_operand (Name p) h = absurd (both_ways true h refl)
+
+pub operand_read : (bs : List ℕ) (k : Word) (r : List ℕ) → map_got word_of (read_word bs) ≡ got k r → is_operand (spelling k) ≡ stands_for_number k
+operand_read bs k r e = let b = read_back bs k r e in go (cases_Bool (named k)) (b.1)
+  where
+    a_name : (w : List ℕ) → is_name w ≡ true → is_operand w ≡ true
+    a_name w h = let p = and_parts (is_word w) _ h in and_from (is_word w) _ p.0 (or_left (not (among w reserved)) _ p.1)
+
+    numbers : (k : Word) → named k ≡ true → stands_for_number k ≡ true
+    numbers Kind h = absurd (both_ways false refl h)
+    numbers Say h = absurd (both_ways false refl h)
+    numbers Send h = absurd (both_ways false refl h)
+    numbers To h = absurd (both_ways false refl h)
+    numbers After h = absurd (both_ways false refl h)
+    numbers If h = absurd (both_ways false refl h)
+    numbers Else h = absurd (both_ways false refl h)
+    numbers End h = absurd (both_ways false refl h)
+    numbers Again h = absurd (both_ways false refl h)
+    numbers Thing h = absurd (both_ways false refl h)
+    numbers Message h = absurd (both_ways false refl h)
+    numbers Draw h = absurd (both_ways false refl h)
+    numbers It h = refl
+    numbers Me h = refl
+    numbers Now h = refl
+    numbers (Name p) h = refl
+
+    go : (named k ≡ true) ⊎ (named k ≡ false) → is_name (spelling k) ≡ named k → is_operand (spelling k) ≡ stands_for_number k
+    go (inl n) e = a_name (spelling k) (e ∙ n) ∙ sym (numbers k n)
+    go (inr n) e = word_operand k n
 
 -- The bytes of a word in the first of eight places, the lowest first.
 pub bytes_packed : (w : List ℕ) → length w ≤ 8 → from_le_bytes w64 (put_mid 0 (length w) (replicate 8 0) w) ≡ pack w

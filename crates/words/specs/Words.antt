@@ -1,5 +1,5 @@
 -- Names as numbers: the bytes of a word, the first with the least weight; and the words of the language.
-use Rattle.std.specs.Prelude.{ℕ, zero, suc, ◌+◌, ◌*◌, ◌/◌, ◌%◌, cond, List, [], ◌∷◌, codes, ◌==◌}
+use Rattle.std.specs.Prelude.{ℕ, zero, suc, Bool, true, false, ◌+◌, ◌*◌, ◌/◌, ◌%◌, cond, List, [], ◌∷◌, codes, ◌==◌}
 use Rattle.words.specs.declared.Word.{Word}
 use Rattle.words.specs.declared.Word.TheVariants.{Kind, Say, Send, To, After, If, Else, End, Again, Thing, Message, Draw, It, Me, Now, Name}
 
@@ -43,3 +43,22 @@ spelling It = codes "it"
 spelling Me = codes "me"
 spelling Now = codes "now"
 spelling (Name p) = unpack p
+
+-- Whether it may stand where a number is wanted.
+abbrev pub stands_for_number : Word → Bool
+stands_for_number Kind = false
+stands_for_number Say = false
+stands_for_number Send = false
+stands_for_number To = false
+stands_for_number After = false
+stands_for_number If = false
+stands_for_number Else = false
+stands_for_number End = false
+stands_for_number Again = false
+stands_for_number Thing = false
+stands_for_number Message = false
+stands_for_number Draw = false
+stands_for_number It = true
+stands_for_number Me = true
+stands_for_number Now = true
+stands_for_number (Name p) = true
