@@ -8,22 +8,22 @@ use Rattle.grammar.specs.Syntax as text
 use Rattle.grammar.specs.Syntax.{all, among, reserved, is_letter, is_digit, in_word, is_word, is_name, is_operand, is_number, every, Sign, plus, minus, times, over, remains, less, equal, sign_byte, Term, number, word, two, show_term, spelled_term}
 use Rattle.grammar.specs.Rules.{right_term}
 use Rattle.grammar.proofs.Words.{same_is, same_self, digit_no_letter, word_full}
-use Rattle.checker.specs.declared.Word.{Word}
-use Rattle.checker.specs.declared.Word.TheVariants.{It, Me, Now}
-use Rattle.checker.specs.Words.{pack, word_by, spelling}
-use Rattle.checker.proofs.Packs.{pack_same, word_bytes, spelled_so, not_It, not_Me, not_Now}
+use Rattle.words.specs.declared.Word.{Word}
+use Rattle.words.specs.declared.Word.TheVariants.{It, Me, Now}
+use Rattle.words.specs.Words.{pack, word_by, spelling}
+use Rattle.words.proofs.Packs.{pack_same, word_bytes, spelled_so, not_It, not_Me, not_Now}
 use Rattle.text.specs.Named.{index_of, operation, expr}
 use Rattle.text.specs.Writes.{Row, row_of, writes}
 use Rattle.text.specs.Parts.{place_of, Packed, WordAt, NumberAt, TermAt, PlainAt, OperandAt, sign_word}
 use Rattle.text.proofs.Rows.{writes_on, patched}
 
 -- The first byte at a place.
-pub first_byte : (bs k : List ℕ) (at x : ℕ) → drop at bs ≡ x ∷ k → get_or bs at 0 ≡ x
-first_byte bs k at x e = ap (λ n. get_or bs n 0) (sym (add-zero at)) ∙ sym (get_or-drop at bs 0 0) ∙ ap (λ l. get_or l 0 0) e
+pub first_byte : (k : List ℕ) (bs : List ℕ) (x : ℕ) → bs ≡ x ∷ k → get_or bs 0 0 ≡ x
+first_byte k bs x e = ap (λ n. get_or n 0) (sym (add-zero bs)) ∙ sym (get_or-bs 0 0) ∙ ap (λ l. get_or l 0 0) e
 
 -- Where there are bytes.
-pub not_past : (bs k : List ℕ) (at x : ℕ) → drop at bs ≡ x ∷ k → length bs ≤ at → ⊥
-not_past bs k at x e h = let z : ◌≡◌ {A = ℕ} 0 (suc (length k)) = ap length (sym (drop_all at bs h) ∙ e) in omega arith
+pub not_past : (k : List ℕ) (bs : List ℕ) (x : ℕ) → bs ≡ x ∷ k → length ≤ bs → ⊥
+not_past k bs x e h = let z : ◌≡◌ {A = ℕ} 0 (suc (length k)) = ap length (sym (drop_all bs h) ∙ e) in omega arith
 
 show_two : (s : Sign) (t u : Term) (k : List ℕ) →
     show_term (two s t u) ++ k ≡ 40 ∷ (show_term t ++ (32 ∷ sign_byte s ∷ 32 ∷ (show_term u ++ (41 ∷ k))))
@@ -51,10 +51,10 @@ begins (word (x ∷ w)) h = (x, w, refl, letter w (and_parts (is_letter x) _ (an
 begins (two s t u) h = (40, _, refl, paren s t u)
 
 -- By the byte at the place.
-pub begins_so : (bs k : List ℕ) (at b : ℕ) (t : Term) → drop at bs ≡ show_term t ++ b ∷ k → spelled_term t ≡ true → Begins t (get_or bs at 0)
-begins_so bs k at b t e h =
+pub begins_so : (k : List ℕ) (bs : List ℕ) (b : ℕ) (t : Term) → bs ≡ show_term t ++ b ∷ k → spelled_term t ≡ true → Begins t (get_or bs 0 0)
+begins_so k bs b t e h =
     let g = begins t h in
-    subst (Begins t) (sym (first_byte bs (g.1 ++ b ∷ k) at g.0 (e ∙ ap (λ z. z ++ b ∷ k) g.2))) g.3
+    subst (Begins t) (sym (first_byte (g.1 ++ b ∷ k) bs g.0 (e ∙ ap (λ z. z ++ b ∷ k) g.2))) g.3
 
 pub term_some : (t : Term) → spelled_term t ≡ true → 0 < length (show_term t)
 term_some t h = let g = begins t h in let z = ap length g.2 in omega arith
@@ -129,59 +129,59 @@ module _ (ps : List ℕ) (p : ℕ) (r r' : Row ℕ) where
       q ∙ ap (λ z. writes (1 ∷ z ∷ []) r) (e ∙ packed_place ns ps w p pk n h) ∙ ap (λ z. writes (encode_expr z) r) (sym (a ∙ b ∙ d))
 
 -- None is so deep.
-pub term_none : (bs ps : List ℕ) (at depth at' : ℕ) (r r' : Row ℕ) → depth ≡ 0 → TermAt bs at ps depth r at' r'
-term_none bs ps at depth at' r r' z ns t k b pk e s g n l = let q = term_some t s in absurd (omega arith)
+pub term_none : (ps : List ℕ) (bs : List ℕ) (depth : ℕ) (bs' : List ℕ) (r r' : Row ℕ) → depth ≡ 0 → TermAt bs ps depth r bs' r'
+term_none ps bs depth bs' r r' z ns t k b pk e s g n l = let q = term_some t s in absurd (omega arith)
 
-module _ (bs ps : List ℕ) (at at' : ℕ) (r r' : Row ℕ) where
-  pub plain_digits : (m : ℕ) → is_digit (get_or bs at 0) ≡ true → NumberAt bs at m at' → r' ≡ writes (0 ∷ m ∷ []) r → PlainAt bs at ps r at' r'
+module _ (ps : List ℕ) (bs bs' : List ℕ) (r r' : Row ℕ) where
+  pub plain_digits : (m : ℕ) → is_digit (get_or bs 0 0) ≡ true → NumberAt bs m bs' → r' ≡ writes (0 ∷ m ∷ []) r → PlainAt bs ps r bs' r'
   unfolding spelled_term show_term right_term expr encode_expr
-  plain_digits m d f q o ns t k b pk e s g n = go t e s g (begins_so bs k at b t e s)
+  plain_digits m d f q o ns t k b pk e s g n = go t e s g (begins_so k bs b t e s)
     where
-      go : (t : Term) → drop at bs ≡ show_term t ++ b ∷ k → spelled_term t ≡ true → right_term ns t ≡ true → Begins t (get_or bs at 0) →
-          (drop at' bs ≡ b ∷ k) × (r' ≡ writes (encode_expr (expr ns t)) r)
+      go : (t : Term) → bs ≡ show_term t ++ b ∷ k → spelled_term t ≡ true → right_term ns t ≡ true → Begins t (get_or bs 0 0) →
+          (bs' ≡ b ∷ k) × (r' ≡ writes (encode_expr (expr ns t)) r)
       go (number ds) e s g z = let w = f ds k b e s g n in (w.1, q ∙ ap (λ x. writes (0 ∷ x ∷ []) r) w.0)
-      go (word w) e s g (letter v z) = absurd (both_ways (is_letter (get_or bs at 0)) (digit_no_letter (get_or bs at 0) d) z)
+      go (word w) e s g (letter v z) = absurd (both_ways (is_letter (get_or bs 0 0)) (digit_no_letter (get_or bs 0 0) d) z)
       go (two s t u) e h g z = absurd (opens z d)
         where
           opens : {x : ℕ} → Begins (two s t u) x → is_digit x ≡ true → ⊥
           opens (paren s t u) d = both_ways false refl d
 
-  pub plain_word : (p : ℕ) → is_digit (get_or bs at 0) ≡ false → WordAt bs at p at' → OperandAt ps p r r' → PlainAt bs at ps r at' r'
+  pub plain_word : (p : ℕ) → is_digit (get_or bs 0 0) ≡ false → WordAt bs p bs' → OperandAt ps p r r' → PlainAt bs ps r bs' r'
   unfolding spelled_term show_term
-  plain_word p d f q o ns t k b pk e s g n = go t e s (begins_so bs k at b t e s)
+  plain_word p d f q o ns t k b pk e s g n = go t e s (begins_so k bs b t e s)
     where
-      go : (t : Term) → drop at bs ≡ show_term t ++ b ∷ k → spelled_term t ≡ true → Begins t (get_or bs at 0) →
-          (drop at' bs ≡ b ∷ k) × (r' ≡ writes (encode_expr (expr ns t)) r)
-      go (number ds) e s (digit v z) = absurd (both_ways (is_digit (get_or bs at 0)) d z)
+      go : (t : Term) → bs ≡ show_term t ++ b ∷ k → spelled_term t ≡ true → Begins t (get_or bs 0 0) →
+          (bs' ≡ b ∷ k) × (r' ≡ writes (encode_expr (expr ns t)) r)
+      go (number ds) e s (digit v z) = absurd (both_ways (is_digit (get_or bs 0 0)) d z)
       go (word w) e s z = let h = (and_parts (is_word w) _ s).0 in let v = f w k b e h n in (v.1, q ns w pk v.0 h)
       go (two s t u) e h z = absurd (opens z o)
         where
           opens : {x : ℕ} → Begins (two s t u) x → (x ≡ 40 → ⊥) → ⊥
           opens (paren s t u) d = d refl
 
-  pub term_plain : (depth : ℕ) → (get_or bs at 0 ≡ 40 → ⊥) → PlainAt bs at ps r at' r' → TermAt bs at ps depth r at' r'
+  pub term_plain : (depth : ℕ) → (get_or bs 0 0 ≡ 40 → ⊥) → PlainAt bs ps r bs' r' → TermAt bs ps depth r bs' r'
   term_plain depth o f ns t k b pk e s g n l = f o ns t k b pk e s g n
 
 -- Two expressions with a sign between.
-pub term_two : (bs ps : List ℕ) (at depth used : ℕ) (xs : List ℕ) (at1 start : ℕ) (xs1 : List ℕ) (at2 used2 : ℕ) (xs2 : List ℕ) (at3 w : ℕ) (xs3 : List ℕ) (at4 at5 used5 : ℕ) (xs5 : List ℕ) (at6 : ℕ) →
-    get_or bs at 0 ≡ 40 →
-    drop at1 bs ≡ drop 1 (drop at bs) →
+pub term_two : (ps : List ℕ) (bs : List ℕ) (depth used : ℕ) (xs : List ℕ) (bs1 : List ℕ) (start : ℕ) (xs1 : List ℕ) (bs2 : List ℕ) (used2 : ℕ) (xs2 : List ℕ) (bs3 : List ℕ) (w : ℕ) (xs3 : List ℕ) (bs4 bs5 : List ℕ) (used5 : ℕ) (xs5 : List ℕ) (bs6 : List ℕ) →
+    get_or bs 0 0 ≡ 40 →
+    bs1 ≡ drop 1 bs →
     row_of start xs1 ≡ writes (0 ∷ []) (row_of used xs) →
-    TermAt bs at1 ps (depth - 1) (row_of start xs1) at2 (row_of used2 xs2) →
-    drop at3 bs ≡ drop 1 (drop at2 bs) →
-    w ≡ sign_word (get_or bs at3 0) →
+    TermAt bs1 ps (depth - 1) (row_of start xs1) bs2 (row_of used2 xs2) →
+    bs3 ≡ drop 1 bs2 →
+    w ≡ sign_word (get_or bs3 0 0) →
     xs3 ≡ set xs2 used w →
-    drop at4 bs ≡ drop 2 (drop at3 bs) →
-    TermAt bs at4 ps (depth - 1) (row_of used2 xs3) at5 (row_of used5 xs5) →
-    drop at6 bs ≡ drop 1 (drop at5 bs) →
-    TermAt bs at ps depth (row_of used xs) at6 (row_of used5 xs5)
+    bs4 ≡ drop 2 bs3 →
+    TermAt bs4 ps (depth - 1) (row_of used2 xs3) bs5 (row_of used5 xs5) →
+    bs6 ≡ drop 1 bs5 →
+    TermAt bs ps depth (row_of used xs) bs6 (row_of used5 xs5)
 unfolding spelled_term right_term expr writes
-term_two bs ps at depth used xs at1 start xs1 at2 used2 xs2 at3 w xs3 at4 at5 used5 xs5 at6 o e1 p1 t1 e3 ew p3 e4 t2 e6 ns t k b pk e s g n l = go t e s g l (begins_so bs k at b t e s)
+term_two ps bs depth used xs bs1 start xs1 bs2 used2 xs2 bs3 w xs3 bs4 bs5 used5 xs5 bs6 o e1 p1 t1 e3 ew p3 e4 t2 e6 ns t k b pk e s g n l = go t e s g l (begins_so k bs b t e s)
   where
-    go : (t : Term) → drop at bs ≡ show_term t ++ b ∷ k → spelled_term t ≡ true → right_term ns t ≡ true → length (show_term t) ≤ depth → Begins t (get_or bs at 0) →
-        (drop at6 bs ≡ b ∷ k) × (row_of used5 xs5 ≡ writes (encode_expr (expr ns t)) (row_of used xs))
-    go (number ds) e s g l (digit v z) = absurd (both_ways (is_digit (get_or bs at 0)) (ap is_digit o) z)
-    go (word v) e s g l (letter u z) = absurd (both_ways (is_letter (get_or bs at 0)) (ap is_letter o) z)
+    go : (t : Term) → bs ≡ show_term t ++ b ∷ k → spelled_term t ≡ true → right_term ns t ≡ true → length (show_term t) ≤ depth → Begins t (get_or bs 0 0) →
+        (bs6 ≡ b ∷ k) × (row_of used5 xs5 ≡ writes (encode_expr (expr ns t)) (row_of used xs))
+    go (number ds) e s g l (digit v z) = absurd (both_ways (is_digit (get_or bs 0 0)) (ap is_digit o) z)
+    go (word v) e s g l (letter u z) = absurd (both_ways (is_letter (get_or bs 0 0)) (ap is_letter o) z)
     go (two s t u) e h g l z =
         let sp = and_parts (spelled_term t) (spelled_term u) h in
         let rt = and_parts (right_term ns t) (right_term ns u) g in
@@ -192,7 +192,7 @@ term_two bs ps at depth used xs at1 start xs1 at2 used2 xs2 at3 w xs3 at4 at5 us
         let a3 = e3 ∙ ap (drop 1) q1.0 in
         let a4 = e4 ∙ ap (drop 2) a3 in
         let q2 = t2 ns u (b ∷ k) 41 pk a4 sp.1 rt.1 refl (omega arith) in
-        let ws = ew ∙ ap sign_word (first_byte bs (32 ∷ (show_term u ++ (41 ∷ b ∷ k))) at3 (sign_byte s) a3) in
+        let ws = ew ∙ ap sign_word (first_byte (32 ∷ (show_term u ++ (41 ∷ b ∷ k))) bs3 (sign_byte s) a3) in
         let r1 = q1.1 ∙ ap (writes (encode_expr (expr ns t))) p1 in
         let r2 = ap (row_of used2) p3 ∙ patched 0 w (encode_expr (expr ns t)) used used2 xs xs2 r1 in (
           e6 ∙ ap (drop 1) q2.0,

@@ -3,10 +3,10 @@ use Rattle.std.proofs.Common.{◌≡◌, ℕ, Bool, true, false, not, List, [], 
 use Rattle.std.proofs.lemmas.Bool.{both_ways, and_parts}
 use Rattle.grammar.specs.Syntax.{all, among, reserved, is_word, is_name, Term, show_term, Lines, none, assign, draw, say, send, when, choose, again, show_lines, spelled_lines}
 use Rattle.grammar.proofs.Words.{word_full}
-use Rattle.checker.specs.declared.Word.{Word}
-use Rattle.checker.specs.declared.Word.TheVariants.{Kind, Say, Send, To, After, If, Else, End, Again, Thing, Message, Draw, It, Me, Now, Name}
-use Rattle.checker.specs.Words.{pack, word_by}
-use Rattle.checker.proofs.Packs.{no_name, not_Kind, not_Say, not_Send, not_To, not_After, not_If, not_Else, not_End, not_Again, not_Thing, not_Message, not_Draw, not_It, not_Me, not_Now}
+use Rattle.words.specs.declared.Word.{Word}
+use Rattle.words.specs.declared.Word.TheVariants.{Kind, Say, Send, To, After, If, Else, End, Again, Thing, Message, Draw, It, Me, Now, Name}
+use Rattle.words.specs.Words.{pack, word_by}
+use Rattle.words.proofs.Packs.{no_name, not_Kind, not_Say, not_Send, not_To, not_After, not_If, not_Else, not_End, not_Again, not_Thing, not_Message, not_Draw, not_It, not_Me, not_Now}
 use Rattle.text.specs.Parts.{WordAt, closing}
 
 -- A name is none of the language's words.
@@ -87,11 +87,11 @@ pub data First : Word → Lines → Bool → Type 0 where
 pub name_word : (w : List ℕ) → is_name w ≡ true → is_word w ≡ true
 name_word w h = (and_parts (is_word w) (not (among w reserved)) h).0
 
-module _ (bs : List ℕ) (at p at' : ℕ) (f : WordAt bs at p at') where
-  by_word : (w k : List ℕ) (b : Word) (ls : Lines) (c : Bool) → drop at bs ≡ w ++ 32 ∷ k → is_word w ≡ true → word_by (pack w) ≡ b → First b ls c → First (word_by p) ls c
+module _ (bs : List ℕ) (p : ℕ) (bs' : List ℕ) (f : WordAt bs p bs') where
+  by_word : (w k : List ℕ) (b : Word) (ls : Lines) (c : Bool) → bs ≡ w ++ 32 ∷ k → is_word w ≡ true → word_by (pack w) ≡ b → First b ls c → First (word_by p) ls c
   by_word w k b ls c e h q x = subst (λ v. First v ls c) (sym (ap word_by (f w k 32 e h refl).0 ∙ q)) x
 
-  pub first_is : (ls : Lines) (c : Bool) (k : List ℕ) → drop at bs ≡ show_lines ls ++ closing c k → spelled_lines ls ≡ true → First (word_by p) ls c
+  pub first_is : (ls : Lines) (c : Bool) (k : List ℕ) → bs ≡ show_lines ls ++ closing c k → spelled_lines ls ≡ true → First (word_by p) ls c
   unfolding spelled_lines all pack show_lines
   first_is none true k e h = subst (λ v. First v none true) (sym (ap word_by (f (codes "else") k 10 e refl refl).0)) by_else
   first_is none false k e h = subst (λ v. First v none false) (sym (ap word_by (f (codes "end") k 10 e refl refl).0)) by_end

@@ -9,7 +9,7 @@ use Rattle.grammar.specs.Rules.{small}
 use Rattle.grammar.proofs.Words.{word_full, number_full}
 use Rattle.grammar.proofs.Full.{expr_full}
 use Rattle.checker.specs.Places.{forget}
-use Rattle.checker.specs.Refusals.{small_number}
+use Rattle.words.specs.Reads.{small_number}
 use Rattle.text.specs.Parts.{place_of}
 
 pub skip_on : {A : Type 0} (at n : ℕ) (bs : List A) → drop (at + n) bs ≡ drop n (drop at bs)

@@ -8,7 +8,7 @@ use Rattle.body.specs.declared.Process.{Process}
 use Rattle.meaning.specs.declared.Message.{Message}
 use Rattle.sequential.specs.Memory.{body_from}
 use Rattle.grammar.specs.Syntax.{Kind, Thing, Note, newline, show_lines, show_row, show_kinds, show_things, show_notes}
-use Rattle.checker.specs.Words.{unpack}
+use Rattle.words.specs.Words.{unpack}
 use Rattle.text.specs.Named.{digits, lines, kind_text, thing_text, note_text}
 use Rattle.text.specs.Slices.{names_of, held_kinds, held_things, held_note}
 use Rattle.text.specs.Written.{held_kind, kind_name, thing_of, kinds_bytes, things_bytes, notes_bytes, lines_bytes}

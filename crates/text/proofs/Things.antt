@@ -17,23 +17,23 @@ use Rattle.text.proofs.Firsts.{name_word}
 use Rattle.text.proofs.Lists.{padded_row, row_next}
 
 -- The place of a kind, step by step.
-first_at : (ps : List ℕ) (at : ℕ) → get_or (drop at ps) 0 0 ≡ get_or ps at 0
-first_at ps at = get_or-drop at ps 0 0 ∙ ap (λ n. get_or ps n 0) (add-zero at)
+first_at : (ps : List ℕ) (bs : List ℕ) → get_or (drop bs ps) 0 0 ≡ get_or ps bs 0
+first_at ps bs = get_or-drop bs ps 0 0 ∙ ap (λ n. get_or ps n 0) (add-zero bs)
 
-module _ (p n j at at' : ℕ) (ps : List ℕ) (h : j < n) where
+module _ (p n j : ℕ) (bs bs' : List ℕ) (ps : List ℕ) (h : j < n) where
   count_down : n - j ≡ suc (n - (j + 1))
   count_down = omega arith
 
-  pub kind_here : get_or ps at 0 ≡ p → place_of p (firsts (n - j) (drop at ps)) ≡ 0
+  pub kind_here : get_or ps bs 0 ≡ p → place_of p (firsts (n - j) (drop bs ps)) ≡ 0
   unfolding place_of firsts
   kind_here e =
-      ap (λ m. place_of p (firsts m (drop at ps))) count_down ∙ cond-true (eqb p (get_or (drop at ps) 0 0)) 0 _ (eq-eqb p (get_or (drop at ps) 0 0) (sym e ∙ sym (first_at ps at)))
+      ap (λ m. place_of p (firsts m (drop bs ps))) count_down ∙ cond-true (eqb p (get_or (drop bs ps) 0 0)) 0 _ (eq-eqb p (get_or (drop bs ps) 0 0) (sym e ∙ sym (first_at ps bs)))
 
-  pub kind_further : (get_or ps at 0 ≡ p → ⊥) → drop at' ps ≡ drop 65 (drop at ps) → place_of p (firsts (n - j) (drop at ps)) ≡ suc (place_of p (firsts (n - (j + 1)) (drop at' ps)))
+  pub kind_further : (get_or ps bs 0 ≡ p → ⊥) → drop bs' ps ≡ drop 65 (drop bs ps) → place_of p (firsts (n - j) (drop bs ps)) ≡ suc (place_of p (firsts (n - (j + 1)) (drop bs' ps)))
   unfolding place_of firsts
   kind_further e d =
-      ap (λ m. place_of p (firsts m (drop at ps))) count_down
-      ∙ cond-false (eqb p (get_or (drop at ps) 0 0)) 0 _ (ne_eqb p (get_or (drop at ps) 0 0) (λ q. e (sym (first_at ps at) ∙ sym q)))
+      ap (λ m. place_of p (firsts m (drop bs ps))) count_down
+      ∙ cond-false (eqb p (get_or (drop bs ps) 0 0)) 0 _ (ne_eqb p (get_or (drop bs ps) 0 0) (λ q. e (sym (first_at ps bs) ∙ sym q)))
       ∙ ap (λ x. suc (place_of p (firsts (n - (j + 1)) x))) (sym d)
 
 pub kind_none : (p n j : ℕ) (ps : List ℕ) → n ≤ j → place_of p (firsts (n - j) ps) ≡ 0
@@ -41,18 +41,18 @@ unfolding place_of firsts
 kind_none p n j ps h = let z : n - j ≡ 0 = omega arith in ap (λ m. place_of p (firsts m ps)) z
 
 -- The things that are still to be read.
-pub record ThingsLeft (bs : List ℕ) (at i count : ℕ) (ks : List (List ℕ)) (xs : List Thing) (k : List ℕ) (r r0 : Row Process) (v v0 : Row ℕ) : Type 0 where
+pub record ThingsLeft (bs : List ℕ) (i count : ℕ) (ks : List (List ℕ)) (xs : List Thing) (k : List ℕ) (r r0 : Row Process) (v v0 : Row ℕ) : Type 0 where
   pub todo : List Thing
-  pub there : drop at bs ≡ show_things todo ++ k
+  pub there : bs ≡ show_things todo ++ k
   pub spelled : every spelled_thing todo ≡ true
   pub fit : every fit_thing todo ≡ true
   pub many : length todo + i ≡ count
   pub same_processes : writes (map (process_in ks) todo) r ≡ writes (map (process_in ks) xs) r0
   pub same_vars : writes (var_rows todo) v ≡ writes (var_rows xs) v0
 
-pub things_begin : (bs : List ℕ) (at count : ℕ) (ks : List (List ℕ)) (xs : List Thing) (k : List ℕ) (r : Row Process) (v : Row ℕ) → drop at bs ≡ show_things xs ++ k →
-    every spelled_thing xs ≡ true → every fit_thing xs ≡ true → length xs ≡ count → ThingsLeft bs at 0 count ks xs k r r v v
-things_begin bs at count ks xs k r v e s g l = record { todo = xs; there = e; spelled = s; fit = g; many = omega arith; same_processes = refl; same_vars = refl }
+pub things_begin : (bs : List ℕ) (count : ℕ) (ks : List (List ℕ)) (xs : List Thing) (k : List ℕ) (r : Row Process) (v : Row ℕ) → bs ≡ show_things xs ++ k →
+    every spelled_thing xs ≡ true → every fit_thing xs ≡ true → length xs ≡ count → ThingsLeft bs 0 count ks xs k r r v v
+things_begin bs count ks xs k r v e s g l = record { todo = xs; there = e; spelled = s; fit = g; many = omega arith; same_processes = refl; same_vars = refl }
 
 show_thing : (x : Thing) (xs : List Thing) (k : List ℕ) → show_things (x ∷ xs) ++ k ≡ codes "thing " ++ (x.kind ++ (show_row x.numbers ++ 10 ∷ (show_things xs ++ k)))
 unfolding show_things
@@ -61,17 +61,17 @@ show_thing x xs k = simp append_assoc
 abbrev process : ℕ → ℕ → Process
 process kind width = record { kind = kind; width = width; seed = 0; sent = 0 }
 
-pub things_more : (bs : List ℕ) (at i count : ℕ) (ks : List (List ℕ)) (xs : List Thing) (k : List ℕ) (r r0 : Row Process) (v v0 : Row ℕ) (kinds : ℕ) (ps : List ℕ)
-    (at1 p at2 at3 width : ℕ) (v' : Row ℕ) (place : ℕ) (r' : Row Process) (at4 : ℕ) → Packed ks (firsts kinds ps) → kinds < 4294967296 → i < count →
-    drop at1 bs ≡ drop 6 (drop at bs) → WordAt bs at1 p at2 → NumbersAt bs at2 64 v at3 width v' → place ≡ place_of p (firsts kinds ps) → place ≤ kinds →
-    r' ≡ writes (process (place % 4294967296) width ∷ []) r → drop at4 bs ≡ drop 1 (drop at3 bs) →
-    ThingsLeft bs at i count ks xs k r r0 v v0 → ThingsLeft bs at4 (i + 1) count ks xs k r' r0 v' v0
+pub things_more : (bs : List ℕ) (i count : ℕ) (ks : List (List ℕ)) (xs : List Thing) (k : List ℕ) (r r0 : Row Process) (v v0 : Row ℕ) (kinds : ℕ) (ps : List ℕ)
+    (bs1 : List ℕ) (p : ℕ) (bs2 bs3 : List ℕ) (width : ℕ) (v' : Row ℕ) (place : ℕ) (r' : Row Process) (bs4 : List ℕ) → Packed ks (firsts kinds ps) → kinds < 4294967296 → i < count →
+    bs1 ≡ drop 6 bs → WordAt bs1 p bs2 → NumbersAt bs2 64 v bs3 width v' → place ≡ place_of p (firsts kinds ps) → place ≤ kinds →
+    r' ≡ writes (process (place % 4294967296) width ∷ []) r → bs4 ≡ drop 1 bs3 →
+    ThingsLeft bs i count ks xs k r r0 v v0 → ThingsLeft bs4 (i + 1) count ks xs k r' r0 v' v0
 unfolding every var_rows writes
-things_more bs at i count ks xs k r r0 v v0 kinds ps at1 p at2 at3 width v' place r' at4 pk hk lt e1 f g ep lp er e4 left =
+things_more bs i count ks xs k r r0 v v0 kinds ps bs1 p bs2 bs3 width v' place r' bs4 pk hk lt e1 f g ep lp er e4 left =
     go left.todo left.there left.spelled left.fit left.many left.same_processes left.same_vars
   where
-    go : (todo : List Thing) → drop at bs ≡ show_things todo ++ k → every spelled_thing todo ≡ true → every fit_thing todo ≡ true → length todo + i ≡ count →
-        writes (map (process_in ks) todo) r ≡ writes (map (process_in ks) xs) r0 → writes (var_rows todo) v ≡ writes (var_rows xs) v0 → ThingsLeft bs at4 (i + 1) count ks xs k r' r0 v' v0
+    go : (todo : List Thing) → bs ≡ show_things todo ++ k → every spelled_thing todo ≡ true → every fit_thing todo ≡ true → length todo + i ≡ count →
+        writes (map (process_in ks) todo) r ≡ writes (map (process_in ks) xs) r0 → writes (var_rows todo) v ≡ writes (var_rows xs) v0 → ThingsLeft bs4 (i + 1) count ks xs k r' r0 v' v0
     go [] e s t m q u = absurd (omega arith)
     go (x ∷ todo) e s t m q u =
         let sp = and_parts (spelled_thing x) (every spelled_thing todo) s in
@@ -98,10 +98,10 @@ things_more bs at i count ks xs k r r0 v v0 kinds ps at1 p at2 at3 width v' plac
               ∙ ap (λ y. writes (y ++ var_rows todo) v) (padded_row 64 (map (decimal 0) x.numbers)) ∙ u;
         }
 
-pub things_done : (bs : List ℕ) (at i count : ℕ) (ks : List (List ℕ)) (xs : List Thing) (k : List ℕ) (r r0 : Row Process) (v v0 : Row ℕ) → count ≤ i →
-    ThingsLeft bs at i count ks xs k r r0 v v0 → (drop at bs ≡ k) × (r ≡ writes (map (process_in ks) xs) r0) × (v ≡ writes (var_rows xs) v0)
+pub things_done : (bs : List ℕ) (i count : ℕ) (ks : List (List ℕ)) (xs : List Thing) (k : List ℕ) (r r0 : Row Process) (v v0 : Row ℕ) → count ≤ i →
+    ThingsLeft bs i count ks xs k r r0 v v0 → (bs ≡ k) × (r ≡ writes (map (process_in ks) xs) r0) × (v ≡ writes (var_rows xs) v0)
 unfolding show_things var_rows writes
-things_done bs at i count ks xs k r r0 v v0 h left =
+things_done bs i count ks xs k r r0 v v0 h left =
     let m = left.many in
     let z : left.todo ≡ [] = nil_from_length left.todo (omega arith) in
     (left.there ∙ ap (λ x. show_things x ++ k) z, ap (λ x. writes (map (process_in ks) x) r) (sym z) ∙ left.same_processes, ap (λ x. writes (var_rows x) v) (sym z) ∙ left.same_vars)

@@ -5,7 +5,7 @@ use Rattle.std.proofs.lemmas.List.{nil_from_length, length-map, take-take, lengt
 use Rattle.grammar.specs.Syntax.{is_name, every, Kind, show_lines, show_kinds, spelled_lines, spelled_kind}
 use Rattle.grammar.specs.Check.{most_deep}
 use Rattle.grammar.specs.Rules.{distinct, depth, right_lines, right_kind}
-use Rattle.checker.specs.Words.{pack}
+use Rattle.words.specs.Words.{pack}
 use Rattle.text.specs.Slices.{row, kind_words, words, starts, name_rows}
 use Rattle.text.specs.Writes.{Row, row_of, writes}
 use Rattle.text.specs.Parts.{Packed, WordAt, LinesAt, closing}
@@ -29,12 +29,12 @@ own_names ws start xs r' width h l e w =
     ∙ writes_read (padded 64 (map pack ws)) start xs (omega arith))
     ∙ padded_front 64 (map pack ws) (omega arith)
 
-pub kind_by : (bs : List ℕ) (at : ℕ) (ns c : Row ℕ) (at1 p at2 start : ℕ) (xs1 : List ℕ) (at3 width ru : ℕ) (xs2 own : List ℕ) (at4 at5 : ℕ) (c' : Row ℕ) (at6 : ℕ) →
-    drop at1 bs ≡ drop 5 (drop at bs) → WordAt bs at1 p at2 → row_of start xs1 ≡ writes (p ∷ []) ns → NamesAt bs at2 64 (row_of start xs1) at3 width (row_of ru xs2) →
-    (start + width ≤ length xs2 → own ≡ take width (drop start xs2)) → drop at4 bs ≡ drop 1 (drop at3 bs) → LinesAt bs at4 own (length bs) c at5 c' → drop at6 bs ≡ drop 4 (drop at5 bs) →
-    KindAt bs at ns c at6 (row_of ru xs2) c'
+pub kind_by : (bs : List ℕ) (ns c : Row ℕ) (bs1 : List ℕ) (p : ℕ) (bs2 : List ℕ) (start : ℕ) (xs1 : List ℕ) (bs3 : List ℕ) (width ru : ℕ) (xs2 own : List ℕ) (bs4 bs5 : List ℕ) (c' : Row ℕ) (bs6 : List ℕ) →
+    bs1 ≡ drop 5 bs → WordAt bs1 p bs2 → row_of start xs1 ≡ writes (p ∷ []) ns → NamesAt bs2 64 (row_of start xs1) bs3 width (row_of ru xs2) →
+    (start + width ≤ length xs2 → own ≡ take width (drop start xs2)) → bs4 ≡ drop 1 bs3 → LinesAt bs4 own (length ) c bs5 c' → bs6 ≡ drop 4 bs5 →
+    KindAt bs ns c bs6 (row_of ru xs2) c'
 unfolding padded writes
-kind_by bs at ns c at1 p at2 start xs1 at3 width ru xs2 own at4 at5 c' at6 e1 f q g o e4 z e6 x k e s r m l =
+kind_by bs ns c bs1 p bs2 start xs1 bs3 width ru xs2 own bs4 bs5 c' bs6 e1 f q g o e4 z e6 x k e s r m l =
     let s1 = and_parts (is_name x.name) _ s in
     let s2 = and_parts (every is_name x.numbers) _ s1.1 in
     let s3 = and_parts (leb (length x.numbers) 64) (spelled_lines x.lines) s2.1 in
@@ -54,7 +54,7 @@ kind_by bs at ns c at1 p at2 start xs1 at3 width ru xs2 own at4 at5 c' at6 e1 f 
     let b = e4 ∙ ap (drop 1) h.goes_on in
     let y =
     z x.numbers x.lines false k pk b s3.1 r2.0
-    (omega (arith, ap length b, length-drop at4 bs, length-append (show_lines x.lines) (closing false k))) m in
+    (omega (arith, ap length b, length-bs4, length-append (show_lines x.lines) (closing false k))) m in
     record {
       goes_on = e6 ∙ ap (drop 4) y.0;
       names_are =
@@ -64,9 +64,9 @@ kind_by bs at ns c at1 p at2 start xs1 at3 width ru xs2 own at4 at5 c' at6 e1 f 
     }
 
 -- The kinds that are still to be read.
-pub record KindsLeft (bs : List ℕ) (at i count : ℕ) (ks : List Kind) (k : List ℕ) (c c0 s s0 ns ns0 : Row ℕ) : Type 0 where
+pub record KindsLeft (bs : List ℕ) (i count : ℕ) (ks : List Kind) (k : List ℕ) (c c0 s s0 ns ns0 : Row ℕ) : Type 0 where
   pub todo : List Kind
-  pub there : drop at bs ≡ show_kinds todo ++ k
+  pub there : bs ≡ show_kinds todo ++ k
   pub spelled : every spelled_kind todo ≡ true
   pub right : every right_kind todo ≡ true
   pub many : length todo + i ≡ count
@@ -77,10 +77,10 @@ pub record KindsLeft (bs : List ℕ) (at i count : ℕ) (ks : List Kind) (k : Li
   pub same_starts : writes (starts c.used todo) s ≡ writes (starts 0 ks) s0
   pub same_names : writes (name_rows todo) ns ≡ writes (name_rows ks) ns0
 
-pub kinds_begin : (bs : List ℕ) (count : ℕ) (ks : List Kind) (k code kinds names : List ℕ) → bs ≡ show_kinds ks ++ k → every spelled_kind ks ≡ true → every right_kind ks ≡ true →
+pub kinds_begin : (count : ℕ) (ks : List Kind) (k code kinds names : List ℕ) → ≡ show_kinds ks ++ k → every spelled_kind ks ≡ true → every right_kind ks ≡ true →
     length (words ks) ≤ length code → length (words ks) < 4294967296 → 65 * length ks ≤ length names → length ks ≡ count →
-    KindsLeft bs 0 0 count ks k (row_of 0 code) (row_of 0 code) (row_of 0 kinds) (row_of 0 kinds) (row_of 0 names) (row_of 0 names)
-kinds_begin bs count ks k code kinds names e s r h m n l =
+    KindsLeft 0 0 count ks k (row_of 0 code) (row_of 0 code) (row_of 0 kinds) (row_of 0 kinds) (row_of 0 names) (row_of 0 names)
+kinds_begin count ks k code kinds names e s r h m n l =
     record {
       todo = ks;
       there = e;
@@ -99,16 +99,16 @@ show_one : (x : Kind) (xs : List Kind) (k : List ℕ) → show_kinds (x ∷ xs) 
 unfolding show_kinds
 show_one x xs k = simp append_assoc
 
-pub kinds_more : (bs : List ℕ) (at i count : ℕ) (ks : List Kind) (k : List ℕ) (c c0 s s0 ns ns0 : Row ℕ) (at' : ℕ) (ns' c' s' : Row ℕ) → i < count → KindAt bs at ns c at' ns' c' →
-    s' ≡ writes (c.used % 4294967296 ∷ []) s → KindsLeft bs at i count ks k c c0 s s0 ns ns0 → KindsLeft bs at' (i + 1) count ks k c' c0 s' s0 ns' ns0
+pub kinds_more : (bs : List ℕ) (i count : ℕ) (ks : List Kind) (k : List ℕ) (c c0 s s0 ns ns0 : Row ℕ) (bs' : List ℕ) (ns' c' s' : Row ℕ) → i < count → KindAt bs ns c bs' ns' c' →
+    s' ≡ writes (c.used % 4294967296 ∷ []) s → KindsLeft bs i count ks k c c0 s s0 ns ns0 → KindsLeft bs' (i + 1) count ks k c' c0 s' s0 ns' ns0
 unfolding every words starts name_rows writes
-kinds_more bs at i count ks k c c0 s s0 ns ns0 at' ns' c' s' lt f es left =
+kinds_more bs i count ks k c c0 s s0 ns ns0 bs' ns' c' s' lt f es left =
     go left.todo left.there left.spelled left.right left.many left.places left.fits left.name_places left.same_code left.same_starts left.same_names
   where
-    go : (todo : List Kind) → drop at bs ≡ show_kinds todo ++ k → every spelled_kind todo ≡ true → every right_kind todo ≡ true → length todo + i ≡ count →
+    go : (todo : List Kind) → bs ≡ show_kinds todo ++ k → every spelled_kind todo ≡ true → every right_kind todo ≡ true → length todo + i ≡ count →
         c.used + length (words todo) ≤ length c.items → c.used + length (words todo) < 4294967296 → ns.used + 65 * length todo ≤ length ns.items →
         writes (words todo) c ≡ writes (words ks) c0 → writes (starts c.used todo) s ≡ writes (starts 0 ks) s0 → writes (name_rows todo) ns ≡ writes (name_rows ks) ns0 →
-        KindsLeft bs at' (i + 1) count ks k c' c0 s' s0 ns' ns0
+        KindsLeft bs' (i + 1) count ks k c' c0 s' s0 ns' ns0
     go [] e sp r m pl fi np q1 q2 q3 = absurd (omega arith)
     go (x ∷ todo) e sp r m pl fi np q1 q2 q3 =
         let s1 = and_parts (spelled_kind x) (every spelled_kind todo) sp in
@@ -134,10 +134,10 @@ kinds_more bs at i count ks k c c0 s s0 ns ns0 at' ns' c' s' lt f es left =
           same_names = ap (writes (name_rows todo)) w.names_are ∙ sym (writes_on (row 65 (map pack (x.name ∷ x.numbers))) (name_rows todo) ns) ∙ q3;
         }
 
-pub kinds_done : (bs : List ℕ) (at i count : ℕ) (ks : List Kind) (k : List ℕ) (c c0 s s0 ns ns0 : Row ℕ) → count ≤ i → KindsLeft bs at i count ks k c c0 s s0 ns ns0 →
-    (drop at bs ≡ k) × (c ≡ writes (words ks) c0) × (s ≡ writes (starts 0 ks) s0) × (ns ≡ writes (name_rows ks) ns0)
+pub kinds_done : (bs : List ℕ) (i count : ℕ) (ks : List Kind) (k : List ℕ) (c c0 s s0 ns ns0 : Row ℕ) → count ≤ i → KindsLeft bs i count ks k c c0 s s0 ns ns0 →
+    (bs ≡ k) × (c ≡ writes (words ks) c0) × (s ≡ writes (starts 0 ks) s0) × (ns ≡ writes (name_rows ks) ns0)
 unfolding show_kinds words starts name_rows writes
-kinds_done bs at i count ks k c c0 s s0 ns ns0 h left =
+kinds_done bs i count ks k c c0 s s0 ns ns0 h left =
     let m = left.many in
     let z : left.todo ≡ [] = nil_from_length left.todo (omega arith) in (
       left.there ∙ ap (λ x. show_kinds x ++ k) z,

@@ -1,7 +1,7 @@
 // Memory for a text, made as large as any text of so many bytes needs, and the model that it is filled with.
 ghost use Rattle.std.specs.Prelude.{◌≡◌};
 
-use super::{Model, load};
+use super::{Lent, Model, load};
 use body::Process;
 use checker::Refusal;
 use meaning::Message;
@@ -94,15 +94,15 @@ fn make_stage(heap: Global, bytes: usize) -> Result<Stage, AllocError> {
 // Reads a text into memory of its own.
 pub fn open(heap: Global, text: &[u8]) -> Result<Opened, AllocError> {
     let mut stage = make_stage(heap, text.len())?;
-    match load(
-        text,
-        stage.code.as_mut_slice(),
-        stage.kinds.as_mut_slice(),
-        stage.names.as_mut_slice(),
-        stage.processes.as_mut_slice(),
-        stage.vars.as_mut_slice(),
-        stage.messages.as_mut_slice(),
-    ) {
+    let mut lent = Lent {
+        code: stage.code.as_mut_slice(),
+        kinds: stage.kinds.as_mut_slice(),
+        names: stage.names.as_mut_slice(),
+        processes: stage.processes.as_mut_slice(),
+        vars: stage.vars.as_mut_slice(),
+        messages: stage.messages.as_mut_slice(),
+    };
+    match load(text, &mut lent) {
         Ok(extent) => {
             stage.kinds.truncate(extent.kinds);
             stage.processes.truncate(extent.things);
