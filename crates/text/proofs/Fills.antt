@@ -43,12 +43,12 @@ roomy_parts t s h =
       messages = leb-true _ _ e.1;
     }
 
-pub fills : (bs : List ℕ) (nk nt nn : ℕ) (code kinds names : List ℕ) (ps : List Process) (vs : List ℕ) (ms : List Message) (code' kinds' names' : List ℕ) (ps' : List Process) (vs' : List ℕ) (ms' : List Message) (at1 at2 : ℕ) →
-    KindsAt bs nk at1 code kinds names code' kinds' names' → ThingsAt bs at1 nk names' nt at2 ps vs ps' vs' → NotesAt bs at2 nt nn ms ms' →
+pub fills : (bs : List ℕ) (nk nt nn : ℕ) (code kinds names : List ℕ) (ps : List Process) (vs : List ℕ) (ms : List Message) (code' kinds' names' : List ℕ) (ps' : List Process) (vs' : List ℕ) (ms' : List Message) (bs1 bs2 : List ℕ) →
+    KindsAt bs nk bs1 code kinds names code' kinds' names' → ThingsAt bs1 nk names' nt bs2 ps vs ps' vs' → NotesAt bs2 nt nn ms ms' →
     (t : Text) → IsText bs t → Keeps t → length t.kinds ≡ nk → length t.things ≡ nt → length t.notes ≡ nn → roomy t (slices code kinds names ps vs ms) ≡ true →
     slices code' kinds' names' ps' vs' ms' ≡ filled t (slices code kinds names ps vs ms)
 unfolding show
-fills bs nk nt nn code kinds names ps vs ms code' kinds' names' ps' vs' ms' at1 at2 f g h t i keeps lk lt ln room =
+fills bs nk nt nn code kinds names ps vs ms code' kinds' names' ps' vs' ms' bs1 bs2 f g h t i keeps lk lt ln room =
     let r = roomy_parts t (slices code kinds names ps vs ms) room in
     let s1 = and_parts (every spelled_kind t.kinds) _ i.well_spelled in
     let s2 = and_parts (every spelled_thing t.things) (every spelled_note t.notes) s1.1 in

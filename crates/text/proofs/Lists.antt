@@ -7,10 +7,9 @@ use Rattle.grammar.specs.Rules.{small}
 use Rattle.words.specs.Words.{pack}
 use Rattle.text.specs.Slices.{row}
 use Rattle.text.specs.Writes.{Row, writes}
-use Rattle.text.specs.Parts.{WordAt, NumberAt}
+use Rattle.text.specs.Parts.{NameAt, NumberAt}
 use Rattle.text.specs.Tables.{padded, WroteRow, NumbersAt, NamesAt}
 use Rattle.text.proofs.FillTerms.{first_byte}
-use Rattle.text.proofs.Firsts.{name_word}
 
 -- What is padded is a row.
 padded_take : (n m : ℕ) (xs : List ℕ) → n ≤ m → padded n xs ≡ take n (xs ++ replicate m 0)
@@ -107,7 +106,7 @@ module _ (bs : List ℕ) (n : ℕ) (r : Row ℕ) where
   unfolding show_row every
   names_over r1 bs' width r' h b p f ds k e s l = row_over bs n pack ds k r r1 bs' width r' h b p e (λ q. f [] k q refl (omega arith))
 
-  pub names_more : (r1 : Row ℕ) (bs1 : List ℕ) (x : ℕ) (bs2 bs' : List ℕ) (width : ℕ) (r' : Row ℕ) → (n ≡ 0 → ⊥) → get_or bs 0 0 ≡ 32 → bs1 ≡ drop 1 bs → WordAt bs1 x bs2 → r1 ≡ writes (x ∷ []) r →
+  pub names_more : (r1 : Row ℕ) (bs1 : List ℕ) (x : ℕ) (bs2 bs' : List ℕ) (width : ℕ) (r' : Row ℕ) → (n ≡ 0 → ⊥) → get_or bs 0 0 ≡ 32 → bs1 ≡ drop 1 bs → NameAt bs1 x bs2 → r1 ≡ writes (x ∷ []) r →
       NamesAt bs2 (n - 1) r1 bs' width r' → NamesAt bs n r bs' (width + 1) r'
   unfolding every
   names_more r1 bs1 x bs2 bs' width r' h b e1 f p z ds k e s l = row_more bs n pack is_name ds k r r1 x bs' width r' h b p e l (go ds s)
@@ -117,5 +116,5 @@ module _ (bs : List ℕ) (n : ℕ) (r : Row ℕ) where
       go ds s d es q e l =
           let sp = and_parts (is_name d) (every is_name es) (ap (every is_name) (sym q) ∙ s) in
           let o = row_next es k in
-          let w = f d o.1 o.0 (e1 ∙ e ∙ ap (λ y. d ++ y) o.2) (name_word d sp.0) o.3 in
+          let w = f d o.1 o.0 (e1 ∙ e ∙ ap (λ y. d ++ y) o.2) sp.0 o.3 in
           (w.0, z es k (w.1 ∙ sym o.2) sp.1 l)

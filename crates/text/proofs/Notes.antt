@@ -1,5 +1,5 @@
 -- Messages, one after the other.
-use Rattle.std.proofs.Common.{◌≡◌, ℕ, suc, ◌+◌, ◌%◌, ◌<◌, ◌≤◌, true, ◌&&◌, ltb, List, [], ◌∷◌, ◌++◌, map, length, drop, sym, refl, ap, ◌∙◌, mod-eq_of_lt, add-one, arith}
+use Rattle.std.proofs.Common.{◌≡◌, ℕ, suc, ◌+◌, ◌%◌, ◌<◌, ◌≤◌, true, ◌&&◌, ltb, List, [], ◌∷◌, ◌++◌, map, length, drop, sym, refl, ap, ◌∙◌, subst, mod-eq_of_lt, add-one, arith}
 use Rattle.std.proofs.lemmas.Bool.{and_parts, ltb-true, lt-ltb}
 use Rattle.std.proofs.lemmas.List.{nil_from_length}
 use Rattle.meaning.specs.declared.Message.{Message}
@@ -7,7 +7,7 @@ use Rattle.grammar.specs.Syntax.{is_number, every, Note, show_notes, spelled_not
 use Rattle.grammar.specs.Check.{decimal, too_large}
 use Rattle.grammar.specs.Rules.{small, right_note}
 use Rattle.text.specs.Named.{sent, counted}
-use Rattle.text.specs.Writes.{Row, writes}
+use Rattle.text.specs.Writes.{Row, row_of, writes}
 use Rattle.text.specs.Parts.{NumberAt}
 use Rattle.text.specs.Tables.{NoteAt}
 
@@ -30,9 +30,11 @@ pub record NotesLeft (bs : List ℕ) (things k count : ℕ) (ns : List Note) (r 
   pub many : length todo + k ≡ count
   pub same : writes (counted things k (map sent todo)) r ≡ writes (counted things 0 (map sent ns)) r0
 
-pub notes_begin : (bs : List ℕ) (things count : ℕ) (ns : List Note) (r : Row Message) → bs ≡ show_notes ns → every spelled_note ns ≡ true → every (right_note things) ns ≡ true →
-    length ns ≡ count → NotesLeft bs things 0 count ns r r
-notes_begin bs things count ns r e s g l = record { todo = ns; there = e; spelled = s; right = g; many = omega arith; same = refl }
+pub notes_begin : (bs : List ℕ) (things count : ℕ) (ns : List Note) (r : Row Message) → r.used ≡ 0 → bs ≡ show_notes ns → every spelled_note ns ≡ true → every (right_note things) ns ≡ true →
+    length ns ≡ count → NotesLeft bs things 0 count ns r (row_of 0 r.items)
+notes_begin bs things count ns r u e s g l =
+    subst (λ x. NotesLeft bs things 0 count ns (row_of x r.items) (row_of 0 r.items)) (sym u)
+    (record { todo = ns; there = e; spelled = s; right = g; many = omega arith; same = refl })
 
 small_to : (ds : List ℕ) (things : ℕ) → things ≤ 65536 → ltb (decimal 0 ds) things ≡ true → small ds ≡ true
 small_to ds things h e = lt-ltb (decimal 0 ds) too_large (omega (arith, ltb-true (decimal 0 ds) things e))

@@ -1,22 +1,23 @@
 -- Lines with no lines in them.
-use Rattle.std.proofs.Common.{◌≡◌, ℕ, true, false, List, [], ◌∷◌, ◌++◌, length, get_or, drop, codes, sym, refl, ap, ◌∙◌, arith, length-append, length-drop}
+use Rattle.std.proofs.Common.{◌≡◌, ℕ, true, false, List, [], ◌∷◌, ◌++◌, length, get_or, drop, codes, sym, refl, ap, ◌∙◌, subst, arith, length-append}
 use Rattle.std.proofs.lemmas.Bool.{both_ways, and_parts}
 use Rattle.body.specs.Encode.{encode_expr}
 use Rattle.grammar.specs.Syntax as text
-use Rattle.grammar.specs.Syntax.{all, is_letter, is_digit, is_word, is_operand, Term, number, word, two, show_term, spelled_term}
+use Rattle.grammar.specs.Syntax.{all, is_letter, is_word, Term, number, word, two, show_term, spelled_term}
 use Rattle.grammar.proofs.Words.{digit_no_letter, operand_no_draw}
 use Rattle.words.specs.declared.Word.TheVariants.{Draw, Say, Send, Name}
-use Rattle.words.specs.Words.{pack, word_by}
-use Rattle.words.proofs.Packs.{not_Draw}
+use Rattle.words.specs.declared.Word.{Word}
+use Rattle.words.specs.Words.{pack}
+use Rattle.words.specs.Reads.{first_is}
 use Rattle.text.specs.Named.{expr}
 use Rattle.text.specs.Writes.{Row, writes}
-use Rattle.text.specs.Parts.{place_of, WordAt, TermAt, ExprAt, HeadAt, SayAt, SendAt, DrawAt, PutAt}
+use Rattle.text.specs.Parts.{place_of, WordAt, TermAt, ExprAt, HeadAt, SayAt, SendAt, DrawAt, PutAt, SimpleAt}
 use Rattle.text.proofs.Rows.{writes_on}
-use Rattle.text.proofs.FillTerms.{Begins, digit, paren, begins_so, first_byte, so, packed_place}
+use Rattle.text.proofs.FillTerms.{Begins, digit, paren, begins_so, so, packed_place}
 
-pub expr_deep : (ps : List ℕ) (bs : List ℕ) (r : Row ℕ) (bs' : List ℕ) (r' : Row ℕ) → TermAt bs ps (length ) r bs' r' → ExprAt bs ps r bs' r'
+pub expr_deep : (ps : List ℕ) (bs : List ℕ) (r : Row ℕ) (bs' : List ℕ) (r' : Row ℕ) → TermAt bs ps (length bs) r bs' r' → ExprAt bs ps r bs' r'
 expr_deep ps bs r bs' r' f ns t k b pk e s g n =
-    f ns t k b pk e s g n (omega (arith, ap length e, length-append (show_term t) (b ∷ k), length-bs))
+    f ns t k b pk e s g n (omega (arith, ap length e, length-append (show_term t) (b ∷ k)))
 
 module _ (ps : List ℕ) where
   pub head_by : (bs bs1 : List ℕ) (r : Row ℕ) (bs2 : List ℕ) (r' : Row ℕ) (bs3 : List ℕ) → bs1 ≡ drop 1 bs → ExprAt bs1 ps r bs2 r' →
@@ -49,37 +50,40 @@ module _ (ps : List ℕ) where
       let b3 = q3.1 ∙ ap (writes (encode_expr (expr ns t))) b2 ∙ sym (writes_on (4 ∷ encode_expr (expr ns v) ++ encode_expr (expr ns u)) (encode_expr (expr ns t)) r) in
       (e9 ∙ ap (drop 1) q1.0, b3)
 
-module _ where
-  -- No letter, so no draw.
-  pub draw_no_letter : (bs : List ℕ) → false ≡ is_letter (get_or bs 0 0) → DrawAt bs false
-  draw_no_letter bs h =
-      record {
-        drawn = λ k e. absurd (both_ways (is_letter (get_or bs 0 0)) (sym h) (ap is_letter (first_byte (codes "raw" ++ 32 ∷ k) bs 100 e)));
-        not_drawn = λ t k e s. refl;
-      }
+-- No letter, so no draw.
+pub draw_no_letter : (bs : List ℕ) → false ≡ first_is is_letter bs → DrawAt bs false
+draw_no_letter bs h =
+    record {
+      drawn = λ k e. absurd (both_ways (first_is is_letter bs) (sym h) (ap (first_is is_letter) e));
+      not_drawn = λ t k e s. refl;
+    }
 
-  pub draw_so : (bs bs' : List ℕ) (p : ℕ) → WordAt bs p bs' → true ≡ is_letter (get_or bs 0 0) → Draw ≡ word_by p → DrawAt bs true
-  unfolding spelled_term text.same show_term
-  draw_so bs bs' p f l h = record { drawn = λ k e. refl; not_drawn = λ t k e s. absurd (go t k e s (begins_so k bs 10 t e s)) }
-    where
-      go : (t : Term) (k : List ℕ) → bs ≡ show_term t ++ 10 ∷ k → spelled_term t ≡ true → Begins t (get_or bs 0 0) → ⊥
-      go (number ds) k e s (digit v z) = both_ways (is_letter (get_or bs 0 0)) (digit_no_letter (get_or bs 0 0) z) (sym l)
-      go (word w) k e s z =
-          let q = f w k 10 e (and_parts (is_word w) _ s).0 refl in
-          let d = so w Draw (and_parts (is_word w) _ s).0 not_Draw (h ∙ ap word_by q.0) in
-          both_ways (text.same w (codes "draw")) (operand_no_draw w s) (ap (λ x. text.same x (codes "draw")) d)
-      go (two s t u) k e h z = opens z (sym l)
-        where
-          opens : {x : ℕ} → Begins (two s t u) x → is_letter x ≡ true → ⊥
-          opens (paren s t u) d = both_ways false refl d
+letter_front : (bs : List ℕ) → true ≡ first_is is_letter bs → true ≡ is_letter (get_or bs 0 0)
+letter_front [] h = absurd (both_ways true h refl)
+letter_front (b ∷ bs) h = h
 
-  pub draw_not : (bs bs' : List ℕ) (p : ℕ) → WordAt bs p bs' → (Draw ≡ word_by p → ⊥) → DrawAt bs false
-  unfolding all pack
-  draw_not bs bs' p f h =
-      record {
-        drawn = λ k e. absurd (h (ap word_by (sym (f (codes "draw") k 32 e refl refl).0)));
-        not_drawn = λ t k e s. refl;
-      }
+pub draw_so : (bs bs' : List ℕ) (v : Word) → WordAt bs v bs' → true ≡ first_is is_letter bs → v ≡ Draw → DrawAt bs true
+unfolding spelled_term text.same show_term
+draw_so bs bs' v f l h = record { drawn = λ k e. refl; not_drawn = λ t k e s. absurd (go t k e s (begins_so k bs 10 t e s)) }
+  where
+    go : (t : Term) (k : List ℕ) → bs ≡ show_term t ++ 10 ∷ k → spelled_term t ≡ true → Begins t (get_or bs 0 0) → ⊥
+    go (number ds) k e s (digit u z) = both_ways (is_letter (get_or bs 0 0)) (digit_no_letter (get_or bs 0 0) z) (sym (letter_front bs l))
+    go (word w) k e s z =
+        let q = f w k 10 e (and_parts (is_word w) _ s).0 refl in
+        let d = so w Draw (and_parts (is_word w) _ s).0 (sym h ∙ q.0) in
+        both_ways (text.same w (codes "draw")) (operand_no_draw w s) (ap (λ x. text.same x (codes "draw")) d)
+    go (two s t u) k e h z = opens z (sym (letter_front bs l))
+      where
+        opens : {x : ℕ} → Begins (two s t u) x → is_letter x ≡ true → ⊥
+        opens (paren s t u) d = both_ways false refl d
+
+pub draw_not : (bs bs' : List ℕ) (v : Word) → WordAt bs v bs' → (v ≡ Draw → ⊥) → DrawAt bs false
+unfolding all pack
+draw_not bs bs' v f h =
+    record {
+      drawn = λ k e. absurd (h (f (codes "draw") k 32 e refl refl).0);
+      not_drawn = λ t k e s. refl;
+    }
 
 module _ (ps : List ℕ) where
   -- A name and what it stands before, by whether draw stands there.
@@ -113,14 +117,31 @@ module _ (ps : List ℕ) where
         draws = λ ns w t k pk n h e s g. absurd (both_ways false refl (d.drawn (show_term t ++ 10 ∷ k) (e1 ∙ ap (drop 3) e)));
       }
 
-pub say_not_send : Say ≡ Send → ⊥
-say_not_send e = let z : ◌≡◌ {A = ℕ} 0 1 = cc in omega arith
+-- A line by its first word.
+module _ (bs ps : List ℕ) (v : Word) (r : Row ℕ) (bs' : List ℕ) (r' : Row ℕ) where
+  pub simple_say : v ≡ Say → SayAt bs ps r bs' r' → SimpleAt bs v ps r bs' r'
+  simple_say e f =
+      record {
+        says = λ _. f;
+        sends = λ h. absurd (let x : Say ≡ Send = sym e ∙ h in let z : ◌≡◌ {A = ℕ} 0 1 = cc in omega arith);
+        puts = λ p h. absurd (let x : Say ≡ Name p = sym e ∙ h in let z : ◌≡◌ {A = ℕ} 0 1 = cc in omega arith);
+      }
 
-pub say_not_name : Say ≡ Name → ⊥
-say_not_name e = let z : ◌≡◌ {A = ℕ} 0 1 = cc in omega arith
+  pub simple_send : v ≡ Send → SendAt bs ps r bs' r' → SimpleAt bs v ps r bs' r'
+  simple_send e f =
+      record {
+        says = λ h. absurd (let x : Send ≡ Say = sym e ∙ h in let z : ◌≡◌ {A = ℕ} 0 1 = cc in omega arith);
+        sends = λ _. f;
+        puts = λ p h. absurd (let x : Send ≡ Name p = sym e ∙ h in let z : ◌≡◌ {A = ℕ} 0 1 = cc in omega arith);
+      }
 
-pub send_not_say : Send ≡ Say → ⊥
-send_not_say e = let z : ◌≡◌ {A = ℕ} 0 1 = cc in omega arith
+  pub simple_put : (p : ℕ) → v ≡ Name p → PutAt bs p ps r bs' r' → SimpleAt bs v ps r bs' r'
+  simple_put p e f =
+      record {
+        says = λ h. absurd (let x : Name p ≡ Say = sym e ∙ h in let z : ◌≡◌ {A = ℕ} 0 1 = cc in omega arith);
+        sends = λ h. absurd (let x : Name p ≡ Send = sym e ∙ h in let z : ◌≡◌ {A = ℕ} 0 1 = cc in omega arith);
+        puts = λ q h. subst (λ n. PutAt bs n ps r bs' r') (let x : Name p ≡ Name q = sym e ∙ h in cc) f;
+      }
 
-pub send_not_name : Send ≡ Name → ⊥
-send_not_name e = let z : ◌≡◌ {A = ℕ} 0 1 = cc in omega arith
+  pub simple_none : (v ≡ Say → ⊥) → (v ≡ Send → ⊥) → ((p : ℕ) → v ≡ Name p → ⊥) → SimpleAt bs v ps r bs' r'
+  simple_none a b c = record { says = λ h. absurd (a h); sends = λ h. absurd (b h); puts = λ p h. absurd (c p h) }

@@ -140,14 +140,14 @@ unfolding names_of
 names_known [] = refl
 names_known (p ∷ xs) = by_first p xs (eqb p 0) (names_known xs)
 
-found : (b : Bool) (n k : ℕ) → cond b (Some n) None ≡ Some k → n ≡ k
+pub found : (b : Bool) (n k : ℕ) → cond b (Some n) None ≡ Some k → n ≡ k
 found true n k e = cc
 found false n k e = absurd (let z : ◌≡◌ {A = ℕ} 0 1 = cc in omega arith)
 
 pub known_some : (xs : List ℕ) (k : ℕ) → position (λ x. eqb x 0) xs ≡ Some k → map unpack (take k xs) ≡ names_of xs
 known_some xs k e = ap (λ n. map unpack (take n xs)) (sym (found (ltb (position_or_len (λ x. eqb x 0) xs) (length xs)) _ k e)) ∙ names_known xs
 
-not_found : (b : Bool) (n : ℕ) → cond b (Some n) None ≡ None → b ≡ false
+pub not_found : (b : Bool) (n : ℕ) → cond b (Some n) None ≡ None → b ≡ false
 not_found true n e = absurd (let z : ◌≡◌ {A = ℕ} 0 1 = cc in omega arith)
 not_found false n e = refl
 

@@ -463,6 +463,13 @@ fn fill_names<'a>(text: &'a [u8], names: &mut Slots<'_, u64>, left: usize) -> (u
     (width + 1, rest)
 }
 
+// The first name of a row, or that of no bytes.
+fn front_name(names: &[u64]) -> u64
+    ensures { result ≡ slice_index names.now 0 }
+{
+    names.first().copied().unwrap_or(0)
+}
+
 // The place of a kind among the first so many, each with its name in front of 64 others.
 fn kind_of(names: &[u64], count: usize, name: u64) -> usize
     ensures is { result ≡ place_of name (firsts count names.now) }
@@ -470,7 +477,7 @@ fn kind_of(names: &[u64], count: usize, name: u64) -> usize
 {
     let mut rows = names;
     for j in 0..count {
-        if rows.first().copied().unwrap_or(0) == name {
+        if front_name(rows) == name {
             return j;
         }
         rows = skip(rows, 65);
@@ -531,7 +538,8 @@ fn fill_kind<'a>(
     names.push(name);
     let start = names.used;
     let (width, rest) = fill_names(numbers, names, 64);
-    let own = part(names.items, start, width as usize);
+    let items = &mut *names.items;
+    let own = part(items, start, width as usize);
     let lines = skip(rest, 1);
     let end = fill_lines(lines, own, code, lines.len());
     skip(end, 4)
