@@ -132,3 +132,9 @@ repeat_rows E B m r r1 r2 r3 r4 r5 e1 e2 e3 e4 e5 =
     let f3 : r3 ≡ writes (0 ∷ E) r1 = e3 ∙ ap (writes E) e2 in
     let f4 : r4 ≡ writes (0 ∷ E ++ B) r1 = e4 ∙ ap (writes B) f3 ∙ sym (writes_on (0 ∷ E) B r1) in
     e5 ∙ patched 0 m (E ++ B) r1.used r4.used r1.items r4.items f4 ∙ ap (writes (m ∷ E ++ B)) e1
+
+-- Where no place is lent nothing is written.
+pub nothing_written : {A : Type 0} (ws : List A) → writes ws (row_of 0 []) ≡ row_of 0 []
+unfolding writes
+nothing_written [] = refl
+nothing_written (w ∷ ws) = nothing_written ws

@@ -608,10 +608,11 @@ pub fn fill(bytes: &[u8], amounts: Amounts, lent: &mut Lent<'_>)
         used: 0,
     };
     let things = fill_kinds(bytes, amounts.kinds, &mut code, &mut kinds, &mut names);
+    let names = &mut *names.items;
     let notes = fill_things(
         things,
         amounts.kinds,
-        names.items,
+        names,
         amounts.things,
         &mut processes,
         &mut vars,
