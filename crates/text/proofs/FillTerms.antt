@@ -1,6 +1,5 @@
 -- The words of expressions.
-use Rattle.std.proofs.Common.{◌≡◌, ℕ, suc, ◌+◌, ◌-◌, ◌<◌, ◌≤◌, Bool, true, false, cond, not, eqb, List, [], ◌∷◌, ◌++◌, map, length, get_or, drop, set, codes, sym, refl, ap, ◌∙◌, subst, append_assoc, add-zero, arith, length-append}
-use Rattle.std.proofs.lemmas.List.{drop_all, get_or-drop}
+use Rattle.std.proofs.Common.{◌≡◌, ℕ, suc, ◌+◌, ◌-◌, ◌<◌, ◌≤◌, Bool, true, false, cond, not, eqb, List, [], ◌∷◌, ◌++◌, map, length, get_or, drop, set, codes, sym, refl, ap, ◌∙◌, subst, append_assoc, arith, length-append}
 use Rattle.std.proofs.lemmas.Bool.{both_ways, and_parts, cond-false, eq-eqb, ne_eqb}
 use Rattle.meaning.specs.Model.{Expr, var, it, me, clock}
 use Rattle.body.specs.Encode.{encode_expr}

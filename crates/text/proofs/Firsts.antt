@@ -1,5 +1,5 @@
 -- The first word of lines, and how they go on behind it.
-use Rattle.std.proofs.Common.{◌≡◌, ℕ, Bool, true, false, not, List, [], ◌∷◌, ◌++◌, drop, codes, sym, refl, ap, ◌∙◌, subst, append_assoc}
+use Rattle.std.proofs.Common.{◌≡◌, ℕ, Bool, true, false, not, List, ◌∷◌, ◌++◌, codes, sym, refl, ap, ◌∙◌, subst, append_assoc}
 use Rattle.std.proofs.lemmas.Bool.{both_ways, and_parts}
 use Rattle.grammar.specs.Syntax.{all, among, reserved, is_word, is_name, Term, show_term, Lines, none, assign, draw, say, send, when, choose, again, show_lines, spelled_lines}
 use Rattle.words.specs.declared.Word.{Word}

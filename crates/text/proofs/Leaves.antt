@@ -1,12 +1,12 @@
 -- Words and numbers in front, and the places of names.
-use Rattle.std.proofs.Common.{◌≡◌, ℕ, suc, ◌+◌, ◌≤◌, true, cond, eqb, ltb, List, ◌∷◌, ◌++◌, length, Some, None, Option, one-add, sym, refl, ap, ◌∙◌, arith}
+use Rattle.std.proofs.Common.{◌≡◌, ℕ, suc, ◌≤◌, cond, eqb, ltb, List, ◌∷◌, length, Some, None, one-add, sym, refl, ap, ◌∙◌, arith}
 use Rattle.std.specs.Prelude.{unwrap_or}
 use Rattle.std.specs.List.{position, position_or_len}
 use Rattle.std.proofs.lemmas.Bool.{cond-true}
 use Rattle.std.proofs.lemmas.Bool.Decides.{nat_tests}
 use Rattle.std.proofs.lemmas.List.Sums.{prefix_len-le-length}
 use Rattle.std.proofs.lemmas.List.Recursion.{is_position_or_len}
-use Rattle.grammar.specs.Parse.{Got, got, bad, read_word, read_number, read_name}
+use Rattle.grammar.specs.Parse.{got, bad, read_word, read_number, read_name}
 use Rattle.grammar.specs.Check.{decimal, too_large}
 use Rattle.grammar.proofs.Words.{word_full, name_full, number_full}
 use Rattle.words.specs.declared.Word.{Word}

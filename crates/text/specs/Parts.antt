@@ -1,5 +1,5 @@
 -- What is read of a good text from where it stands, and written of it.
-use Rattle.std.specs.Prelude.{◌≡◌, ℕ, suc, ◌+◌, ◌-◌, ◌%◌, ◌<◌, ◌≤◌, Bool, true, false, cond, List, [], ◌∷◌, ◌++◌, map, length, drop, codes, ◌==◌, ◌≢◌, slice_index}
+use Rattle.std.specs.Prelude.{◌≡◌, ℕ, suc, ◌+◌, ◌-◌, ◌%◌, ◌<◌, ◌≤◌, Bool, true, false, cond, List, [], ◌∷◌, ◌++◌, map, length, codes, ◌==◌, ◌≢◌, slice_index}
 use Rattle.body.specs.Encode.{encode_expr, encode}
 use Rattle.grammar.specs.Syntax as text
 use Rattle.grammar.specs.Syntax.{in_word, is_word, is_name, is_number, is_operand, every, Term, show_term, spelled_term, Lines, show_lines, spelled_lines}

@@ -161,12 +161,7 @@ fn fill_plain<'a>(text: &'a [u8], names: &[u64], code: &mut Slots<'_, u32>) -> &
 }
 
 // The words of an expression, at most so deep. The first is put when the sign is read.
-fn fill_term<'a>(
-    text: &'a [u8],
-    names: &[u64],
-    code: &mut Slots<'_, u32>,
-    depth: usize,
-) -> &'a [u8]
+fn fill_term<'a>(text: &'a [u8], names: &[u64], code: &mut Slots<'_, u32>, depth: usize) -> &'a [u8]
     requires { length names.now ≤ 64 }
     ensures same { code.new.items.ghost_name ≡ code.old.items.ghost_name }
     ensures is { TermAt text.now names.now depth (row_in code.old) result.now (row_in code.new) }
@@ -254,12 +249,7 @@ fn is_draw(text: &[u8]) -> bool
 }
 
 // A number that is assigned or drawn, behind its name.
-fn fill_put<'a>(
-    text: &'a [u8],
-    name: u64,
-    names: &[u64],
-    code: &mut Slots<'_, u32>,
-) -> &'a [u8]
+fn fill_put<'a>(text: &'a [u8], name: u64, names: &[u64], code: &mut Slots<'_, u32>) -> &'a [u8]
     requires { length names.now ≤ 64 }
     ensures same { code.new.items.ghost_name ≡ code.old.items.ghost_name }
     ensures is { PutAt text.now name names.now (row_in code.old) result.now (row_in code.new) }
@@ -277,12 +267,7 @@ fn fill_put<'a>(
 }
 
 // A line with no lines in it, behind its first word.
-fn fill_simple<'a>(
-    text: &'a [u8],
-    word: Word,
-    names: &[u64],
-    code: &mut Slots<'_, u32>,
-) -> &'a [u8]
+fn fill_simple<'a>(text: &'a [u8], word: Word, names: &[u64], code: &mut Slots<'_, u32>) -> &'a [u8]
     requires { length names.now ≤ 64 }
     ensures same { code.new.items.ghost_name ≡ code.old.items.ghost_name }
     ensures is { SimpleAt text.now word names.now (row_in code.old) result.now (row_in code.new) }
@@ -358,12 +343,7 @@ fn fill_repeat<'a>(
 
 // The words of lines, at most so many; reading goes on at what closes them.
 #[cycle(lines)]
-fn fill_lines<'a>(
-    text: &'a [u8],
-    names: &[u64],
-    code: &mut Slots<'_, u32>,
-    most: usize,
-) -> &'a [u8]
+fn fill_lines<'a>(text: &'a [u8], names: &[u64], code: &mut Slots<'_, u32>, most: usize) -> &'a [u8]
     requires { length names.now ≤ 64 }
     ensures same { code.new.items.ghost_name ≡ code.old.items.ghost_name }
     ensures is { LinesAt text.now names.now most (row_in code.old) result.now (row_in code.new) }
@@ -525,11 +505,7 @@ fn part(names: &[u64], from: usize, n: usize) -> &[u64]
 }
 
 // The names and the words of a kind.
-fn fill_kind<'a>(
-    text: &'a [u8],
-    names: &mut Slots<'_, u64>,
-    code: &mut Slots<'_, u32>,
-) -> &'a [u8]
+fn fill_kind<'a>(text: &'a [u8], names: &mut Slots<'_, u64>, code: &mut Slots<'_, u32>) -> &'a [u8]
     ensures same { names.new.items.ghost_name ≡ names.old.items.ghost_name }
     ensures same_code { code.new.items.ghost_name ≡ code.old.items.ghost_name }
     ensures is { KindAt text.now (row_in names.old) (row_in code.old) result.now (row_in names.new) (row_in code.new) }

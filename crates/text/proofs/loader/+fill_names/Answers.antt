@@ -1,4 +1,4 @@
-use Rattle.std.proofs.Common.{sym, ◌∙◌, arith}
+use Rattle.std.proofs.Common.{sym, ◌∙◌}
 use Rattle.text.specs.Slots.{row_in}
 use Rattle.text.proofs.Lists.{names_none, names_over, names_more}
 use Rattle.text.proofs.loader.+fill_names.Goals as goal

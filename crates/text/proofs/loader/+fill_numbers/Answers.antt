@@ -1,4 +1,4 @@
-use Rattle.std.proofs.Common.{sym, ◌∙◌, arith}
+use Rattle.std.proofs.Common.{sym, ◌∙◌}
 use Rattle.text.specs.Slots.{row_in}
 use Rattle.text.proofs.Lists.{numbers_none, numbers_over, numbers_more}
 use Rattle.text.proofs.loader.+fill_numbers.Goals as goal

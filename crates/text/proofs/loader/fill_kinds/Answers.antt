@@ -9,8 +9,7 @@ loop-i-init c =
     (refl, refl, refl, λ ks k e s r h m n l. kinds_begin c.args.text.now c.args.count ks k _ _ _ c.requires.code c.requires.kinds c.requires.names e s r h m n l)
 
 pub loop-i-preserved : goal.loop-i-preserved
-loop-i-preserved c =
-    (
+loop-i-preserved c = (
   c.fill_kind-rest.ensures.same_code ∙ c.loop-i.invariant.0,
   c.push.ensures.same ∙ c.loop-i.invariant.1,
   c.fill_kind-rest.ensures.same ∙ c.loop-i.invariant.2,

@@ -9,8 +9,7 @@ loop-k-init c =
     (refl, λ ns e s g h l. notes_begin c.args.text.now c.args.things c.args.count ns _ c.requires e s g l)
 
 pub loop-k-preserved : goal.loop-k-preserved
-loop-k-preserved c =
-    (
+loop-k-preserved c = (
   c.push.ensures.same ∙ c.loop-k.invariant.0,
   λ ns e s g h l.
       notes_more c.loop-k.rest.now c.args.things c.loop-k.k c.args.count ns (row_in c.loop-k.messages) (row_of 0 c.args.messages.now.items.now) (row_in c.push.new.self) c.note_at-time.result.0 c.note_at-time.result.1

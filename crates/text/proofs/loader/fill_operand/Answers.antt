@@ -1,4 +1,4 @@
-use Rattle.std.proofs.Common.{[], ◌∷◌, ap, ◌∙◌, sym}
+use Rattle.std.proofs.Common.{[], ◌∷◌, ap, ◌∙◌}
 use Rattle.text.specs.Slots.{row_in}
 use Rattle.text.specs.Writes.{writes}
 use Rattle.text.proofs.FillTerms.{operand_it, operand_me, operand_now, operand_name, operand_none, no_number}

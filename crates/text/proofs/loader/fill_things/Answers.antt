@@ -9,8 +9,7 @@ loop-i-init c =
     (refl, refl, λ ks xs k pk h e s g l. things_begin c.args.text.now c.args.count ks xs k _ _ c.requires.processes c.requires.vars e s g l)
 
 pub loop-i-preserved : goal.loop-i-preserved
-loop-i-preserved c =
-    (
+loop-i-preserved c = (
   c.push.ensures.same ∙ c.loop-i.invariant.0,
   c.fill_numbers-width.ensures.same ∙ c.loop-i.invariant.1,
   λ ks xs k pk h e s g l.

@@ -1,6 +1,6 @@
 use Rattle.std.proofs.Common.{sym}
 use Rattle.text.specs.Loaded.{slices_in}
-use Rattle.text.proofs.Loads.{text_of, kinds_few, things_few, refuses, too_short, takes}
+use Rattle.text.proofs.Loads.{text_of, kinds_few, things_few, too_short, takes}
 use Rattle.text.proofs.loader.load.Goals as goal
 
 pub is_roomy-requires-clause-kinds : goal.is_roomy-requires-clause-kinds
