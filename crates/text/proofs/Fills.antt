@@ -43,12 +43,16 @@ roomy_parts t s h =
       messages = leb-true _ _ e.1;
     }
 
-pub fills : (bs : List ℕ) (nk nt nn : ℕ) (code kinds names : List ℕ) (ps : List Process) (vs : List ℕ) (ms : List Message) (code' kinds' names' : List ℕ) (ps' : List Process) (vs' : List ℕ) (ms' : List Message) (at1 at2 : ℕ) →
-    KindsAt bs nk at1 code kinds names code' kinds' names' → ThingsAt bs at1 nk names' nt at2 ps vs ps' vs' → NotesAt bs at2 nt nn ms ms' →
+pub same_slices : {c c' k k' n n' : List ℕ} {p p' : List Process} {v v' : List ℕ} {m m' : List Message} → c ≡ c' → k ≡ k' → n ≡ n' → p ≡ p' → v ≡ v' → m ≡ m' →
+    slices c k n p v m ≡ slices c' k' n' p' v' m'
+same_slices e1 e2 e3 e4 e5 e6 = λ j. slices (e1 j) (e2 j) (e3 j) (e4 j) (e5 j) (e6 j)
+
+pub fills : (bs : List ℕ) (nk nt nn : ℕ) (code kinds names : List ℕ) (ps : List Process) (vs : List ℕ) (ms : List Message) (code' kinds' names' : List ℕ) (ps' : List Process) (vs' : List ℕ) (ms' : List Message) (bs1 bs2 : List ℕ) →
+    KindsAt bs nk bs1 code kinds names code' kinds' names' → ThingsAt bs1 nk names' nt bs2 ps vs ps' vs' → NotesAt bs2 nt nn ms ms' →
     (t : Text) → IsText bs t → Keeps t → length t.kinds ≡ nk → length t.things ≡ nt → length t.notes ≡ nn → roomy t (slices code kinds names ps vs ms) ≡ true →
     slices code' kinds' names' ps' vs' ms' ≡ filled t (slices code kinds names ps vs ms)
 unfolding show
-fills bs nk nt nn code kinds names ps vs ms code' kinds' names' ps' vs' ms' at1 at2 f g h t i keeps lk lt ln room =
+fills bs nk nt nn code kinds names ps vs ms code' kinds' names' ps' vs' ms' bs1 bs2 f g h t i keeps lk lt ln room =
     let r = roomy_parts t (slices code kinds names ps vs ms) room in
     let s1 = and_parts (every spelled_kind t.kinds) _ i.well_spelled in
     let s2 = and_parts (every spelled_thing t.things) (every spelled_note t.notes) s1.1 in
@@ -76,4 +80,4 @@ fills bs nk nt nn code kinds names ps vs ms code' kinds' names' ps' vs' ms' at1 
     q3 ∙ ap (λ n. (writes (counted n 0 (map sent t.notes)) (row_of 0 ms)).items) (sym lt)
     ∙ writes_first (counted (length t.things) 0 (map sent t.notes)) ms
     (omega (arith, counted_length (length t.things) 0 (map sent t.notes), length-map t.notes sent, r.messages)) in
-    λ j. slices (e1 j) (e2 j) (names_is j) (e4 j) (e5 j) (e6 j)
+    same_slices e1 e2 names_is e4 e5 e6

@@ -8,8 +8,8 @@ use Rattle.sequential.specs.Memory.{body_from}
 use Rattle.grammar.specs.Syntax.{all, in_word, is_letter, is_digit, is_name, every, Kind, Thing, spelled_kind, spelled_lines}
 use Rattle.grammar.specs.Check.{decimal}
 use Rattle.grammar.specs.Rules.{small}
-use Rattle.checker.specs.Words.{pack, unpack, unpack_upto}
-use Rattle.checker.proofs.Packs.{word_bytes}
+use Rattle.words.specs.Words.{pack, unpack, unpack_upto}
+use Rattle.words.proofs.Packs.{word_bytes}
 use Rattle.text.specs.Named.{Sent, body, named_kind, made, sent, counted}
 use Rattle.text.specs.Slices.{row, over, kind_words, words, starts, name_rows, process_of, var_rows, names_of, held_kinds, held_things, held_note}
 use Rattle.text.specs.Tables.{padded, fit_thing}

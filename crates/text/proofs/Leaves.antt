@@ -1,61 +1,69 @@
--- Words, numbers and expressions at a place.
-use Rattle.std.proofs.Common.{◌≡◌, ℕ, suc, ◌+◌, ◌-◌, ◌<◌, ◌≤◌, true, false, eqb, ltb, List, ◌∷◌, ◌++◌, length, drop, Some, None, sym, ap, ◌∙◌, arith}
-use Rattle.std.proofs.lemmas.List.{drop-drop, drop_all, length-drop}
-use Rattle.std.proofs.lemmas.Bool.{cond-true, cond-false, eq-eqb, ne_eqb}
-use Rattle.grammar.specs.Syntax.{in_word, is_word, is_number, Term, show_term, spelled_term}
-use Rattle.grammar.specs.Parse.{Got, got, bad, read_word, read_number, read_expr}
+-- Words and numbers in front, and the places of names.
+use Rattle.std.proofs.Common.{◌≡◌, ℕ, suc, ◌≤◌, cond, eqb, ltb, List, ◌∷◌, length, Some, None, one-add, sym, refl, ap, ◌∙◌, arith}
+use Rattle.std.specs.Prelude.{unwrap_or}
+use Rattle.std.specs.List.{position, position_or_len}
+use Rattle.std.proofs.lemmas.Bool.{cond-true}
+use Rattle.std.proofs.lemmas.Bool.Decides.{nat_tests}
+use Rattle.std.proofs.lemmas.List.Sums.{prefix_len-le-length}
+use Rattle.std.proofs.lemmas.List.Recursion.{is_position_or_len}
+use Rattle.grammar.specs.Parse.{got, bad, read_word, read_number, read_name}
 use Rattle.grammar.specs.Check.{decimal, too_large}
-use Rattle.grammar.specs.Rules.{small}
-use Rattle.grammar.proofs.Words.{word_full, number_full}
-use Rattle.grammar.proofs.Full.{expr_full}
-use Rattle.checker.specs.Places.{forget}
-use Rattle.checker.specs.Refusals.{small_number}
-use Rattle.text.specs.Parts.{place_of}
+use Rattle.grammar.proofs.Words.{word_full, name_full, number_full}
+use Rattle.words.specs.declared.Word.{Word}
+use Rattle.words.specs.Words.{pack, word_of}
+use Rattle.words.specs.Reads.{map_got, small_number}
+use Rattle.text.specs.Parts.{place_of, WordAt, NameAt, NumberAt}
+use Rattle.text.proofs.Texts.{found, not_found}
 
-pub skip_on : {A : Type 0} (at n : ℕ) (bs : List A) → drop (at + n) bs ≡ drop n (drop at bs)
-skip_on at n bs = sym (drop-drop n at bs)
-
-pub skip_past : {A : Type 0} (at n : ℕ) (bs : List A) → length bs - at < n → drop (length bs) bs ≡ drop n (drop at bs)
-skip_past at n bs h = drop_all (length bs) bs (omega arith) ∙ sym (drop_all n (drop at bs) (omega (arith, length-drop at bs)))
-
-pub got_parts : {A : Type 0} (a b : A) (c d : List ℕ) → got a c ≡ got b d → (a ≡ b) × (c ≡ d)
+got_parts : {A : Type 0} (a b : A) (c d : List ℕ) → got a c ≡ got b d → (a ≡ b) × (c ≡ d)
 got_parts a b c d h = (cc, cc)
 
-pub not_bad : {A : Type 0} (a : A) (c d : List ℕ) → bad d ≡ got a c → ⊥
+not_bad : {A : Type 0} (a : A) (c d : List ℕ) → bad d ≡ got a c → ⊥
 not_bad a c d h = let z : ◌≡◌ {A = ℕ} 0 1 = cc in omega arith
 
-pub word_read : (bs w k : List ℕ) (b at : ℕ) (g : Got (List ℕ)) → drop at bs ≡ w ++ b ∷ k → is_word w ≡ true → in_word b ≡ false →
-    read_word (drop at bs) ≡ g → g ≡ got w (b ∷ k)
-word_read bs w k b at g e h n q = sym q ∙ ap read_word e ∙ word_full w (b ∷ k) h n
+module _ (bs bs' : List ℕ) where
+  pub word_is : (v : Word) → map_got word_of (read_word bs) ≡ got v bs' → WordAt bs v bs'
+  word_is v q w k b e h n =
+      got_parts v (word_of w) bs' (b ∷ k) (sym q ∙ ap (λ x. map_got word_of (read_word x)) e ∙ ap (map_got word_of) (word_full w (b ∷ k) h n))
 
-pub number_read : (bs w k : List ℕ) (b at : ℕ) (g : Got (List ℕ)) → drop at bs ≡ w ++ b ∷ k → is_number w ≡ true → in_word b ≡ false →
-    read_number (drop at bs) ≡ g → g ≡ got w (b ∷ k)
-number_read bs w k b at g e h n q = sym q ∙ ap read_number e ∙ number_full w (b ∷ k) h n
+  pub word_not : (v : Word) (r : List ℕ) → map_got word_of (read_word bs) ≡ bad r → WordAt bs v bs'
+  word_not v r q w k b e h n =
+      absurd (not_bad (word_of w) (b ∷ k) r (sym q ∙ ap (λ x. map_got word_of (read_word x)) e ∙ ap (map_got word_of) (word_full w (b ∷ k) h n)))
 
-pub term_read : (bs k : List ℕ) (t : Term) (b at : ℕ) (g : Got (Unit {0})) → drop at bs ≡ show_term t ++ b ∷ k → spelled_term t ≡ true → in_word b ≡ false →
-    forget (read_expr (drop at bs)) ≡ g → g ≡ got tt (b ∷ k)
-term_read bs k t b at g e h n q = sym q ∙ ap (λ x. forget (read_expr x)) e ∙ ap (λ x. forget x) (expr_full t (b ∷ k) h n)
+  pub name_is : (p : ℕ) → map_got pack (read_name bs) ≡ got p bs' → NameAt bs p bs'
+  name_is p q w k b e h n =
+      got_parts p (pack w) bs' (b ∷ k) (sym q ∙ ap (λ x. map_got pack (read_name x)) e ∙ ap (map_got pack) (name_full w (b ∷ k) h n))
 
--- The number of small digits.
-pub small_is : (ds : List ℕ) (n : ℕ) → small ds ≡ true → Some n ≡ small_number ds → n ≡ decimal 0 ds
-small_is ds n h e =
-    let q : small_number ds ≡ Some (decimal 0 ds) = cond-true (ltb (decimal 0 ds) too_large) (Some (decimal 0 ds)) None h in cc
+  pub name_not : (p : ℕ) (r : List ℕ) → map_got pack (read_name bs) ≡ bad r → NameAt bs p bs'
+  name_not p r q w k b e h n =
+      absurd (not_bad (pack w) (b ∷ k) r (sym q ∙ ap (λ x. map_got pack (read_name x)) e ∙ ap (map_got pack) (name_full w (b ∷ k) h n)))
 
-pub small_not : (ds : List ℕ) → small ds ≡ true → None ≡ small_number ds → ⊥
-small_not ds h e =
-    let q : small_number ds ≡ Some (decimal 0 ds) = cond-true (ltb (decimal 0 ds) too_large) (Some (decimal 0 ds)) None h in
-    let z : ◌≡◌ {A = ℕ} 0 1 = cc in
-    omega arith
+  pub number_is : (m : ℕ) (ds : List ℕ) → read_number bs ≡ got ds bs' → m ≡ unwrap_or (small_number ds) 0 → NumberAt bs m bs'
+  number_is m ds q u es k b e h s n =
+      let g = got_parts ds es bs' (b ∷ k) (sym q ∙ ap read_number e ∙ number_full es (b ∷ k) h n) in (
+        u ∙ ap (λ x. unwrap_or (small_number x) 0) g.0 ∙ ap (λ x. unwrap_or x 0) (cond-true (ltb (decimal 0 es) too_large) (Some (decimal 0 es)) None s),
+        g.1,
+      )
 
--- The place of a packed word, step by step.
-pub place_here : (p i : ℕ) (qs : List ℕ) (q : ℕ) → i < length qs → q ≡ p → drop i qs ≡ q ∷ drop (i + 1) qs → place_of p (drop i qs) ≡ 0
+  pub number_not : (m : ℕ) (r : List ℕ) → read_number bs ≡ bad r → NumberAt bs m bs'
+  number_not m r q es k b e h s n = absurd (not_bad es (b ∷ k) r (sym q ∙ ap read_number e ∙ number_full es (b ∷ k) h n))
+
+-- The place of a packed word is the first that is it.
+eqb_swap : (a b : ℕ) → eqb a b ≡ eqb b a
+eqb_swap a b = grind (arith, nat_tests)
+
+place_is : (p : ℕ) (qs : List ℕ) → place_of p qs ≡ position_or_len (λ q. eqb q p) qs
 unfolding place_of
-place_here p i qs q h e d = ap (place_of p) d ∙ cond-true (eqb p q) 0 (suc (place_of p (drop (i + 1) qs))) (eq-eqb p q (sym e))
+place_is p qs =
+    is_position_or_len (place_of p) (λ q. eqb q p) refl
+    (λ x xs. ap (λ b. cond b 0 (suc (place_of p xs))) (eqb_swap p x) ∙ ap (cond (eqb x p) 0) (sym (one-add (place_of p xs)))) qs
 
-pub place_further : (p i : ℕ) (qs : List ℕ) (q : ℕ) → (q ≡ p → ⊥) → drop i qs ≡ q ∷ drop (i + 1) qs → place_of p (drop i qs) ≡ suc (place_of p (drop (i + 1) qs))
-unfolding place_of
-place_further p i qs q n d = ap (place_of p) d ∙ cond-false (eqb p q) 0 (suc (place_of p (drop (i + 1) qs))) (ne_eqb p q (λ e. n (sym e)))
+pub place_some : (p k : ℕ) (qs : List ℕ) → position (λ q. eqb q p) qs ≡ Some k → k ≡ place_of p qs
+place_some p k qs e = sym (place_is p qs ∙ found (ltb (position_or_len (λ q. eqb q p) qs) (length qs)) _ k e)
 
-pub place_none : (p i : ℕ) (qs : List ℕ) → length qs ≤ i → place_of p (drop i qs) ≡ 0
-unfolding place_of
-place_none p i qs h = ap (place_of p) (drop_all i qs h)
+pub place_none : (p : ℕ) (qs : List ℕ) → position (λ q. eqb q p) qs ≡ None → length qs ≡ place_of p qs
+place_none p qs e =
+    let h = not_found (ltb (position_or_len (λ q. eqb q p) qs) (length qs)) _ e in
+    let l : position_or_len (λ q. eqb q p) qs ≤ length qs = prefix_len-le-length _ qs in
+    let i = place_is p qs in
+    grind (arith, nat_tests)

@@ -6,7 +6,7 @@ use Rattle.body.specs.declared.LineOp.{LineOp}
 use Rattle.body.specs.declared.LineOp.TheVariants.{Stop, Do, Branch, Repeat}
 use Rattle.body.specs.Code.{expr_of, body_of, body_by, line_op}
 use Rattle.meaning.specs.Model.{Expr, Body, stop, assign, draw, say, send, branch, repeat}
-use Rattle.checker.specs.Words.{unpack}
+use Rattle.words.specs.Words.{unpack}
 use Rattle.grammar.specs.Syntax as text
 use Rattle.grammar.specs.Syntax.{Term, Lines, show_term, show_lines, newline}
 use Rattle.text.specs.Named.{term, lines, branched}

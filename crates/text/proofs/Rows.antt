@@ -111,26 +111,30 @@ module _ {A : Type 0} where
       ∙ ap (take (length ws)) (drop_at (take n xs) (ws ++ drop (length ws) (drop n xs)) n l) ∙ take_at ws (drop (length ws) (drop n xs)) (length ws) refl
 
 -- The words of a branch, of which two are put when the lines in it are written.
-pub branch_rows : (E B C : List ℕ) (m n : ℕ) (r : Row ℕ) (opened : ℕ) (xs1 : List ℕ) (second : ℕ) (xs2 : List ℕ) (r3 r4 : Row ℕ) (ou : ℕ) (xs5 xs6 : List ℕ) (tu : ℕ) (xs7 xs8 : List ℕ) →
-    row_of opened xs1 ≡ writes (5 ∷ []) r → row_of second xs2 ≡ writes (0 ∷ []) (row_of opened xs1) → r3 ≡ writes (0 ∷ []) (row_of second xs2) → r4 ≡ writes E r3 →
-    row_of ou xs5 ≡ writes B r4 → xs6 ≡ set xs5 opened m → row_of tu xs7 ≡ writes C (row_of ou xs6) → xs8 ≡ set xs7 second n →
-    row_of tu xs8 ≡ writes (5 ∷ m ∷ n ∷ E ++ B ++ C) r
+pub branch_rows : (E B C : List ℕ) (m n : ℕ) (r r1 r2 r3 r4 r5 r6 r7 r8 : Row ℕ) →
+    r1 ≡ writes (5 ∷ []) r → r2 ≡ writes (0 ∷ []) r1 → r3 ≡ writes (0 ∷ []) r2 → r4 ≡ writes E r3 → r5 ≡ writes B r4 → r6 ≡ row_of r5.used (set r5.items r1.used m) →
+    r7 ≡ writes C r6 → r8 ≡ row_of r7.used (set r7.items r2.used n) → r8 ≡ writes (5 ∷ m ∷ n ∷ E ++ B ++ C) r
 unfolding writes
-branch_rows E B C m n r opened xs1 second xs2 r3 r4 ou xs5 xs6 tu xs7 xs8 e1 e2 e3 e4 e5 e6 e7 e8 =
-    let f4 : r4 ≡ writes (0 ∷ 0 ∷ E) (row_of opened xs1) = e4 ∙ ap (writes E) (e3 ∙ ap (writes (0 ∷ [])) e2) in
-    let f5 : row_of ou xs5 ≡ writes (0 ∷ 0 ∷ E ++ B) (row_of opened xs1) = e5 ∙ ap (writes B) f4 ∙ sym (writes_on (0 ∷ 0 ∷ E) B (row_of opened xs1)) in
-    let f6 : row_of ou xs6 ≡ writes (m ∷ 0 ∷ E ++ B) (row_of opened xs1) = ap (row_of ou) e6 ∙ patched 0 m (0 ∷ E ++ B) opened ou xs1 xs5 f5 in
-    let f7 : row_of tu xs7 ≡ writes (m ∷ 0 ∷ E ++ B ++ C) (row_of opened xs1) = e7 ∙ ap (writes C) f6 ∙ sym (writes_on (m ∷ 0 ∷ E ++ B) C (row_of opened xs1)) in
-    let u : second ≡ (writes (m ∷ []) (row_of opened xs1)).used = ap (λ x. x.used) e2 ∙ pushed_same 0 m (row_of opened xs1) in
-    let f8 = patched 0 n (E ++ B ++ C) (writes (m ∷ []) (row_of opened xs1)).used tu (writes (m ∷ []) (row_of opened xs1)).items xs7 f7 in
-    ap (row_of tu) (e8 ∙ ap (λ i. set xs7 i n) u) ∙ f8 ∙ ap (writes (m ∷ n ∷ E ++ B ++ C)) e1
+branch_rows E B C m n r r1 r2 r3 r4 r5 r6 r7 r8 e1 e2 e3 e4 e5 e6 e7 e8 =
+    let f4 : r4 ≡ writes (0 ∷ 0 ∷ E) r1 = e4 ∙ ap (writes E) (e3 ∙ ap (writes (0 ∷ [])) e2) in
+    let f5 : r5 ≡ writes (0 ∷ 0 ∷ E ++ B) r1 = e5 ∙ ap (writes B) f4 ∙ sym (writes_on (0 ∷ 0 ∷ E) B r1) in
+    let f6 : r6 ≡ writes (m ∷ 0 ∷ E ++ B) r1 = e6 ∙ patched 0 m (0 ∷ E ++ B) r1.used r5.used r1.items r5.items f5 in
+    let f7 : r7 ≡ writes (m ∷ 0 ∷ E ++ B ++ C) r1 = e7 ∙ ap (writes C) f6 ∙ sym (writes_on (m ∷ 0 ∷ E ++ B) C r1) in
+    let u : r2.used ≡ (writes (m ∷ []) r1).used = ap (λ x. x.used) e2 ∙ pushed_same 0 m r1 in
+    let f8 = patched 0 n (E ++ B ++ C) (writes (m ∷ []) r1).used r7.used (writes (m ∷ []) r1).items r7.items f7 in
+    e8 ∙ ap (λ i. row_of r7.used (set r7.items i n)) u ∙ f8 ∙ ap (writes (m ∷ n ∷ E ++ B ++ C)) e1
 
 -- The words of a repeat.
-pub repeat_rows : (E B : List ℕ) (m : ℕ) (r : Row ℕ) (opened : ℕ) (xs1 : List ℕ) (r2 r3 : Row ℕ) (iu : ℕ) (xs4 xs5 : List ℕ) →
-    row_of opened xs1 ≡ writes (6 ∷ []) r → r2 ≡ writes (0 ∷ []) (row_of opened xs1) → r3 ≡ writes E r2 → row_of iu xs4 ≡ writes B r3 → xs5 ≡ set xs4 opened m →
-    row_of iu xs5 ≡ writes (6 ∷ m ∷ E ++ B) r
+pub repeat_rows : (E B : List ℕ) (m : ℕ) (r r1 r2 r3 r4 r5 : Row ℕ) →
+    r1 ≡ writes (6 ∷ []) r → r2 ≡ writes (0 ∷ []) r1 → r3 ≡ writes E r2 → r4 ≡ writes B r3 → r5 ≡ row_of r4.used (set r4.items r1.used m) → r5 ≡ writes (6 ∷ m ∷ E ++ B) r
 unfolding writes
-repeat_rows E B m r opened xs1 r2 r3 iu xs4 xs5 e1 e2 e3 e4 e5 =
-    let f3 : r3 ≡ writes (0 ∷ E) (row_of opened xs1) = e3 ∙ ap (writes E) e2 in
-    let f4 : row_of iu xs4 ≡ writes (0 ∷ E ++ B) (row_of opened xs1) = e4 ∙ ap (writes B) f3 ∙ sym (writes_on (0 ∷ E) B (row_of opened xs1)) in
-    ap (row_of iu) e5 ∙ patched 0 m (E ++ B) opened iu xs1 xs4 f4 ∙ ap (writes (m ∷ E ++ B)) e1
+repeat_rows E B m r r1 r2 r3 r4 r5 e1 e2 e3 e4 e5 =
+    let f3 : r3 ≡ writes (0 ∷ E) r1 = e3 ∙ ap (writes E) e2 in
+    let f4 : r4 ≡ writes (0 ∷ E ++ B) r1 = e4 ∙ ap (writes B) f3 ∙ sym (writes_on (0 ∷ E) B r1) in
+    e5 ∙ patched 0 m (E ++ B) r1.used r4.used r1.items r4.items f4 ∙ ap (writes (m ∷ E ++ B)) e1
+
+-- Where no place is lent nothing is written.
+pub nothing_written : {A : Type 0} (ws : List A) → writes ws (row_of 0 []) ≡ row_of 0 []
+unfolding writes
+nothing_written [] = refl
+nothing_written (w ∷ ws) = nothing_written ws

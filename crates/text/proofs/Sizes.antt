@@ -8,7 +8,7 @@ use Rattle.grammar.specs.Syntax as text
 use Rattle.grammar.specs.Syntax.{is_name, every, among, Sign, plus, minus, times, over, remains, less, equal, sign_byte, Term, number, word, two, Lines, none, assign, draw, say, send, when, choose, again, Kind, Thing, show_term, show_lines, show_row, show_kinds, spelled_kind}
 use Rattle.grammar.specs.Check.{decimal, known, count_of}
 use Rattle.grammar.specs.Rules.{small, right_thing}
-use Rattle.checker.specs.Words.{pack}
+use Rattle.words.specs.Words.{pack}
 use Rattle.text.specs.Named.{Sent, index_of, expr, body, counted}
 use Rattle.text.specs.Slices.{row, kind_words, words, starts, name_rows, var_rows}
 use Rattle.text.specs.Tables.{padded, firsts, fit_thing}

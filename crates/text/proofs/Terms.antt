@@ -7,7 +7,7 @@ use Rattle.body.specs.declared.ExprOp.{ExprOp}
 use Rattle.body.specs.declared.ExprOp.TheVariants.{Fixed, Var, It, Me, Clock, Two, Nothing}
 use Rattle.body.specs.Code.{expr_of, expr_by, expr_op, of_two}
 use Rattle.meaning.specs.Model.{Expr}
-use Rattle.checker.specs.Words.{unpack}
+use Rattle.words.specs.Words.{unpack}
 use Rattle.grammar.specs.Syntax.{two, show_term, sign_byte}
 use Rattle.text.specs.Named.{digits, term}
 use Rattle.text.specs.Written.{sign_of, term_bytes}

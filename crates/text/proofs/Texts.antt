@@ -8,7 +8,7 @@ use Rattle.body.specs.declared.Process.{Process}
 use Rattle.meaning.specs.declared.Message.{Message}
 use Rattle.sequential.specs.Memory.{body_from}
 use Rattle.grammar.specs.Syntax.{Kind, Thing, Note, newline, show_lines, show_row, show_kinds, show_things, show_notes}
-use Rattle.checker.specs.Words.{unpack}
+use Rattle.words.specs.Words.{unpack}
 use Rattle.text.specs.Named.{digits, lines, kind_text, thing_text, note_text}
 use Rattle.text.specs.Slices.{names_of, held_kinds, held_things, held_note}
 use Rattle.text.specs.Written.{held_kind, kind_name, thing_of, kinds_bytes, things_bytes, notes_bytes, lines_bytes}
@@ -140,14 +140,14 @@ unfolding names_of
 names_known [] = refl
 names_known (p ∷ xs) = by_first p xs (eqb p 0) (names_known xs)
 
-found : (b : Bool) (n k : ℕ) → cond b (Some n) None ≡ Some k → n ≡ k
+pub found : (b : Bool) (n k : ℕ) → cond b (Some n) None ≡ Some k → n ≡ k
 found true n k e = cc
 found false n k e = absurd (let z : ◌≡◌ {A = ℕ} 0 1 = cc in omega arith)
 
 pub known_some : (xs : List ℕ) (k : ℕ) → position (λ x. eqb x 0) xs ≡ Some k → map unpack (take k xs) ≡ names_of xs
 known_some xs k e = ap (λ n. map unpack (take n xs)) (sym (found (ltb (position_or_len (λ x. eqb x 0) xs) (length xs)) _ k e)) ∙ names_known xs
 
-not_found : (b : Bool) (n : ℕ) → cond b (Some n) None ≡ None → b ≡ false
+pub not_found : (b : Bool) (n : ℕ) → cond b (Some n) None ≡ None → b ≡ false
 not_found true n e = absurd (let z : ◌≡◌ {A = ℕ} 0 1 = cc in omega arith)
 not_found false n e = refl
 

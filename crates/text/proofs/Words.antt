@@ -1,7 +1,7 @@
 -- Names and numbers, byte by byte.
 use Rattle.std.proofs.Common.{◌≡◌, ℕ, zero, suc, ◌+◌, ◌-◌, ◌/◌, ◌%◌, ◌<◌, ◌≤◌, eqb, ltb, [], ◌∷◌, ◌++◌, sym, refl, ap, ◌∙◌, sub-one, arith}
 use Rattle.std.proofs.lemmas.Bool.{cond-true, cond-false, ne_eqb}
-use Rattle.checker.specs.Words.{unpack_upto}
+use Rattle.words.specs.Words.{unpack_upto}
 use Rattle.text.specs.Named.{digits_upto}
 
 pub unpack_zero : (n : ℕ) → unpack_upto n 0 ≡ []

@@ -5,6 +5,7 @@ pub mod Bounds
 pub mod Printed
 pub mod Written
 pub mod Writes
+pub mod Slots
 pub mod Parts
 pub mod Tables
 pub mod Promise

@@ -4,11 +4,25 @@ use Rattle.grammar.specs.Syntax.{Text, IsText}
 use Rattle.grammar.specs.Check.{check, taken, refused}
 use Rattle.grammar.specs.Rules.{Keeps}
 use Rattle.checker.specs.declared.Refusal.{Refusal}
-use Rattle.checker.specs.declared.Rule.TheVariants.{Lent}
+use Rattle.checker.specs.declared.Rule.TheVariants as rule
 use Rattle.checker.specs.declared.texts.Extent.{Extent}
 use Rattle.checker.specs.Refusals.{number_of}
+use Rattle.text.specs.declared.loader.Lent.{Lent}
 use Rattle.text.specs.Named.{named}
-use Rattle.text.specs.Slices.{Slices, filled, roomy, held, used}
+use Rattle.text.specs.Slices.{Slices, slices, filled, roomy, held, used}
+
+-- What lent slices hold.
+abbrev pub slices_in : Lent → Slices
+slices_in l = slices l.code.now l.kinds.now l.names.now l.processes.now l.vars.now l.messages.now
+
+-- The same lent slices, whatever they hold.
+pub record SameLent (l m : Lent) : Type 0 where
+  pub code : m.code.ghost_name ≡ l.code.ghost_name
+  pub kinds : m.kinds.ghost_name ≡ l.kinds.ghost_name
+  pub names : m.names.ghost_name ≡ l.names.ghost_name
+  pub processes : m.processes.ghost_name ≡ l.processes.ghost_name
+  pub vars : m.vars.ghost_name ≡ l.vars.ghost_name
+  pub messages : m.messages.ghost_name ≡ l.messages.ghost_name
 
 -- Whether lent slices are long enough, by the extent of a text.
 abbrev pub roomy_for : Extent → Slices → Bool
@@ -30,7 +44,7 @@ pub record TakenIn (bs : List ℕ) (s s' : Slices) (e : Extent) (t : Text) : Typ
 abbrev pub Why : List ℕ → Slices → Refusal → Type 0
 Why bs s f =
     ((check bs ≡ refused (number_of f.rule) (drop f.place bs)) × (f.place ≤ length bs))
-    ⊎ ((t : Text) × (check bs ≡ taken t []) × (roomy t s ≡ false) × (f ≡ record { rule = Lent; place = 4 }))
+    ⊎ ((t : Text) × (check bs ≡ taken t []) × (roomy t s ≡ false) × (f ≡ record { rule = rule.Lent; place = 4 }))
 
 abbrev pub Loaded : List ℕ → Slices → Slices → Result Extent Refusal → Type 0
 Loaded bs s s' (Ok e) = (t : Text) × TakenIn bs s s' e t

@@ -6,7 +6,7 @@ use Rattle.body.specs.Encode.{encode}
 use Rattle.sequential.specs.Memory.{body_from}
 use Rattle.grammar.specs.Syntax.{Kind, Thing, Text, show_kinds}
 use Rattle.grammar.specs.Check.{decimal}
-use Rattle.checker.specs.Words.{pack, unpack}
+use Rattle.words.specs.Words.{pack, unpack}
 use Rattle.text.specs.Named.{NamedKind, Made, Sent, Named, body, made, sent, counted}
 
 -- All that is lent.

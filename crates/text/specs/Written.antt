@@ -10,7 +10,7 @@ use Rattle.body.specs.Code.{expr_of, body_by, body_of}
 use Rattle.body.specs.declared.LineOp.{LineOp}
 use Rattle.grammar.specs.Syntax.{Sign, plus, minus, times, over as divided, remains, less, equal, Thing, show_term, show_lines, show_kinds, show_things, show_notes, show}
 use Rattle.meaning.specs.Model.{Body, stop, assign, draw, say, send, branch, repeat}
-use Rattle.checker.specs.Words.{unpack}
+use Rattle.words.specs.Words.{unpack}
 use Rattle.body.specs.declared.Process.{Process}
 use Rattle.meaning.specs.declared.Message.{Message}
 use Rattle.sequential.specs.Memory.{body_from}

@@ -9,7 +9,7 @@ pub mod play;
 pub mod stage;
 mod writer;
 
-pub use loader::{Amounts, fill, load};
+pub use loader::{Amounts, Lent, fill, load};
 pub use writer::{Model, write};
 
 // The digits of a number are read as that number.

@@ -1,337 +1,282 @@
-// Lent slices filled from a text that was checked. Other bytes fill them with anything.
-ghost use Rattle.std.specs.Prelude.{◌≡◌, ℕ, ◌+◌, ◌<◌, ◌≤◌, true, List, [], ◌∷◌, length, take, drop, slice_index, slice_set};
+// Lent slices filled from a text that was checked. Other bytes fill them with anything. What reads is given the text from where it stands,
+// and gives the text behind.
+ghost use Rattle.std.specs.Prelude.{◌≡◌, ℕ, ◌+◌, ◌≤◌, ◌==◌, true, List, [], ◌∷◌, length, position, take, drop, slice_index, slice_set};
 ghost use Rattle.grammar.specs.Rules.{Keeps};
-ghost use Rattle.grammar.specs.Syntax.{is_digit, is_letter, Text, IsText};
-ghost use Rattle.text.specs.Loaded.{Loaded, roomy_for};
-ghost use Rattle.text.specs.Slices.{slices, filled, roomy};
+ghost use Rattle.grammar.specs.Syntax.{Text, IsText};
+ghost use Rattle.body.specs.Code.{expr_word};
+ghost use Rattle.text.specs.Loaded.{Loaded, SameLent, slices_in, roomy_for};
+ghost use Rattle.text.specs.Slices.{filled, roomy};
 ghost use Rattle.text.specs.Writes.{row_of, writes};
-ghost use Rattle.text.specs.Parts.{place_of, WordAt, NumberAt, TermAt, OperandAt, sign_word, PlainAt, ExprAt, HeadAt, SayAt, SendAt, DrawAt, PutAt, SimpleAt, LinesAt, BranchAt, RepeatAt, between};
+ghost use Rattle.text.specs.Slots.{row_in};
+ghost use Rattle.text.specs.Parts.{place_of, WordAt, NameAt, NumberAt, TermAt, OperandAt, sign_word, PlainAt, ExprAt, HeadAt, SayAt, SendAt, DrawAt, PutAt, SimpleAt, LinesAt, BranchAt, RepeatAt, between};
 ghost use Rattle.text.specs.Tables.{NoteAt, NotesAt, NumbersAt, NamesAt, firsts, ThingsAt, KindAt, KindsAt};
 
-use body::Process;
-use checker::{Extent, Refusal, Rule, Word, check};
+use body::{Act, Binary, ExprOp, LineOp, Process, skip};
+use checker::{Extent, Refusal, Rule, check};
 use meaning::Message;
+use words::Word;
 
-// Where reading goes on, and how many words are in use.
-#[derive(Clone, Copy)]
-pub struct Placed {
-    pub at: usize,
-    pub used: usize,
+// The lent slices that a model is read into: words, where each kind's words begin, names, processes with their variables, and messages.
+#[derive(Drop)]
+pub struct Lent<'a> {
+    pub code: &'a mut [u32],
+    pub kinds: &'a mut [u32],
+    pub names: &'a mut [u64],
+    pub processes: &'a mut [Process],
+    pub vars: &'a mut [u32],
+    pub messages: &'a mut [Message],
 }
 
-// A packed word, and where it ends.
-#[derive(Clone, Copy)]
-pub struct Spelled {
-    pub word: u64,
-    pub at: usize,
+// Lent places, the first so many of them in use.
+#[derive(Drop)]
+struct Slots<'a, T> {
+    items: &'a mut [T],
+    used: usize,
 }
 
-// A number, and where its digits end.
-#[derive(Clone, Copy)]
-pub struct Counted {
-    pub number: u32,
-    pub at: usize,
-}
+impl<T: Copy> Slots<'_, T> {
+    // One more, if there is a place.
+    fn push(&mut self, item: T)
+        ensures same { self.new.items.ghost_name ≡ self.old.items.ghost_name }
+        ensures is { row_in self.new ≡ writes (item ∷ []) (row_in self.old) }
+    {
+        if self.used < self.items.len() {
+            self.items[self.used] = item;
+            self.used += 1;
+        }
+    }
 
-// So many on, or the end.
-fn skip<T>(items: &[T], at: usize, n: usize) -> usize
-    requires { at ≤ length items.now }
-    ensures on { drop result items.now ≡ drop n (drop at items.now) }
-    ensures inside { result ≤ length items.now }
-{
-    if n <= items.len() - at {
-        at + n
-    } else {
-        items.len()
+    // Another item in a place, if there is that place.
+    fn set(&mut self, place: usize, item: T)
+        ensures same { self.new.items.ghost_name ≡ self.old.items.ghost_name }
+        ensures is { row_in self.new ≡ row_of self.old.used (slice_set self.old.items.now place item) }
+    {
+        if place < self.items.len() {
+            self.items[place] = item;
+        }
     }
 }
 
-// One more, if there is a place.
-fn push<T: Copy>(items: &mut [T], used: usize, item: T) -> usize
-    ensures { row_of result items.new ≡ writes (item ∷ []) (row_of used items.old) }
+fn word_at(text: &[u8]) -> (Word, &[u8])
+    ensures { WordAt text.now result.0 result.1.now }
 {
-    if used < items.len() {
-        items[used] = item;
-        used + 1
-    } else {
-        used
+    match words::read_word(text) {
+        Ok(read) => read,
+        Err(rest) => (Word::Name(0), rest),
     }
 }
 
-// A word at a place, if there is that place.
-fn put(code: &mut [u32], place: usize, word: u32)
-    ensures { code.new ≡ slice_set code.old place word }
+fn name_at(text: &[u8]) -> (u64, &[u8])
+    ensures { NameAt text.now result.0 result.1.now }
 {
-    if place < code.len() {
-        code[place] = word;
+    match words::read_name(text) {
+        Ok(read) => read,
+        Err(rest) => (0, rest),
     }
 }
 
-fn word_at(bytes: &[u8], at: usize) -> Spelled
-    requires { at ≤ length bytes.now }
-    ensures is { WordAt bytes.now at result.word result.at }
-    ensures inside { result.at ≤ length bytes.now }
+fn number_at(text: &[u8]) -> (u32, &[u8])
+    ensures { NumberAt text.now result.0 result.1.now }
 {
-    match checker::read_word(bytes, at) {
-        Ok(end) => Spelled {
-            word: checker::packed(&bytes[at..end]),
-            at: end,
-        },
-        Err(end) => Spelled { word: 0, at: end },
+    match words::read_number(text) {
+        Ok((digits, rest)) => (words::number_of(digits).unwrap_or(0), rest),
+        Err(rest) => (0, rest),
     }
 }
 
-fn number_at(bytes: &[u8], at: usize) -> Counted
-    requires { at ≤ length bytes.now }
-    ensures is { NumberAt bytes.now at result.number result.at }
-    ensures inside { result.at ≤ length bytes.now }
+// The first place of a name in a row.
+fn position_of(names: &[u64], name: u64) -> Option<usize>
+    ensures { result ≡ position (λ n. n == name) names.now }
 {
-    match checker::read_number(bytes, at) {
-        Ok(end) => match checker::number_of(&bytes[at..end]) {
-            Some(number) => Counted { number, at: end },
-            None => Counted { number: 0, at: end },
-        },
-        Err(end) => Counted { number: 0, at: end },
-    }
+    names.iter().position(|n| *n == name)
 }
 
-// The place of a name in a row.
+// The place of a name in a row, or the length of the row.
 fn place_of(names: &[u64], name: u64) -> usize
     ensures is { result ≡ place_of name names.now }
     ensures inside { result ≤ length names.now }
 {
-    let mut k = 0;
-    for n in names {
-        if *n == name {
-            return k;
-        }
-        k += 1;
+    match position_of(names, name) {
+        Some(k) => k,
+        None => names.len(),
     }
-    k
 }
 
-fn is_digit(b: u8) -> bool
-    ensures { result ≡ is_digit b }
+// The first byte, or 0.
+fn front(text: &[u8]) -> u8
+    ensures { result ≡ slice_index text.now 0 }
 {
-    b >= b'0' && b <= b'9'
+    text.first().copied().unwrap_or(0)
 }
 
-// The byte at a place, or 0.
-fn byte_at(bytes: &[u8], at: usize) -> u8
-    ensures { result ≡ slice_index bytes.now at }
-{
-    if at < bytes.len() { bytes[at] } else { 0 }
-}
-
-// The word of an operation.
-fn operation(sign: u8) -> u32
-    ensures { result ≡ sign_word sign }
+// The operation of a sign.
+fn operation(sign: u8) -> ExprOp
+    ensures { expr_word result ≡ sign_word sign }
 {
     match sign {
-        b'+' => 5,
-        b'-' => 6,
-        b'*' => 7,
-        b'/' => 8,
-        b'%' => 9,
-        b'<' => 10,
-        b'=' => 11,
-        _ => 0,
+        b'+' => ExprOp::Two(Binary::Plus),
+        b'-' => ExprOp::Two(Binary::Minus),
+        b'*' => ExprOp::Two(Binary::Times),
+        b'/' => ExprOp::Two(Binary::Over),
+        b'%' => ExprOp::Two(Binary::Remains),
+        b'<' => ExprOp::Two(Binary::Less),
+        b'=' => ExprOp::Two(Binary::Same),
+        _ => ExprOp::Fixed,
     }
 }
 
 // The words of a word that stands for a number.
-fn fill_operand(names: &[u64], word: u64, code: &mut [u32], used: usize) -> usize
+fn fill_operand(word: Word, names: &[u64], code: &mut Slots<'_, u32>)
     requires { length names.now ≤ 64 }
-    ensures { OperandAt names.now word (row_of used code.old) (row_of result code.new) }
+    ensures same { code.new.items.ghost_name ≡ code.old.items.ghost_name }
+    ensures is { OperandAt names.now word (row_in code.old) (row_in code.new) }
 {
-    match checker::word_by(word) {
-        Word::It => push(code, used, 2),
-        Word::Me => push(code, used, 3),
-        Word::Now => push(code, used, 4),
-        _ => {
-            let place = place_of(names, word) as u32;
-            let opened = push(code, used, 1);
-            push(code, opened, place)
+    match word {
+        Word::It => code.push(u32::from(ExprOp::It)),
+        Word::Me => code.push(u32::from(ExprOp::Me)),
+        Word::Now => code.push(u32::from(ExprOp::Clock)),
+        Word::Name(name) => {
+            code.push(u32::from(ExprOp::Var));
+            code.push(place_of(names, name) as u32);
         }
+        _ => {}
     }
 }
 
 // The words of a number or a word, which doesn't begin with a parenthesis.
-fn fill_plain(bytes: &[u8], at: usize, names: &[u64], code: &mut [u32], used: usize) -> Placed
-    requires from { at ≤ length bytes.now }
-    requires few { length names.now ≤ 64 }
-    ensures is { PlainAt bytes.now at names.now (row_of used code.old) result.at (row_of result.used code.new) }
-    ensures inside { result.at ≤ length bytes.now }
+fn fill_plain<'a>(text: &'a [u8], names: &[u64], code: &mut Slots<'_, u32>) -> &'a [u8]
+    requires { length names.now ≤ 64 }
+    ensures same { code.new.items.ghost_name ≡ code.old.items.ghost_name }
+    ensures is { PlainAt text.now names.now (row_in code.old) result.now (row_in code.new) }
 {
-    if is_digit(byte_at(bytes, at)) {
-        let digits = number_at(bytes, at);
-        let opened = push(code, used, 0);
-        return Placed {
-            at: digits.at,
-            used: push(code, opened, digits.number),
-        };
+    if front(text).is_ascii_digit() {
+        let (number, rest) = number_at(text);
+        code.push(u32::from(ExprOp::Fixed));
+        code.push(number);
+        return rest;
     }
-    let word = word_at(bytes, at);
-    Placed {
-        at: word.at,
-        used: fill_operand(names, word.word, code, used),
-    }
+    let (word, rest) = word_at(text);
+    fill_operand(word, names, code);
+    rest
 }
 
 // The words of an expression, at most so deep. The first is put when the sign is read.
-fn fill_term(
-    bytes: &[u8],
-    at: usize,
-    names: &[u64],
-    code: &mut [u32],
-    used: usize,
-    depth: usize,
-) -> Placed
-    requires from { at ≤ length bytes.now }
-    requires few { length names.now ≤ 64 }
-    ensures is { TermAt bytes.now at names.now depth (row_of used code.old) result.at (row_of result.used code.new) }
-    ensures inside { result.at ≤ length bytes.now }
+fn fill_term<'a>(text: &'a [u8], names: &[u64], code: &mut Slots<'_, u32>, depth: usize) -> &'a [u8]
+    requires { length names.now ≤ 64 }
+    ensures same { code.new.items.ghost_name ≡ code.old.items.ghost_name }
+    ensures is { TermAt text.now names.now depth (row_in code.old) result.now (row_in code.new) }
 {
     if depth == 0 {
-        return Placed { at, used };
+        return text;
     }
-    if byte_at(bytes, at) != b'(' {
-        return fill_plain(bytes, at, names, code, used);
+    if front(text) != b'(' {
+        return fill_plain(text, names, code);
     }
-    let start = push(code, used, 0);
-    let inner = skip(bytes, at, 1);
-    let first = fill_term(bytes, inner, names, code, start, depth - 1);
-    let sign = skip(bytes, first.at, 1);
-    put(code, used, operation(byte_at(bytes, sign)));
-    let other = skip(bytes, sign, 2);
-    let second = fill_term(bytes, other, names, code, first.used, depth - 1);
-    Placed {
-        at: skip(bytes, second.at, 1),
-        used: second.used,
-    }
+    let opened = code.used;
+    code.push(0);
+    let first = fill_term(skip(text, 1), names, code, depth - 1);
+    let sign = skip(first, 1);
+    code.set(opened, u32::from(operation(front(sign))));
+    let second = fill_term(skip(sign, 2), names, code, depth - 1);
+    skip(second, 1)
 }
 
 // The words of an expression, however deep.
-fn fill_expr(bytes: &[u8], at: usize, names: &[u64], code: &mut [u32], used: usize) -> Placed
-    requires from { at ≤ length bytes.now }
-    requires few { length names.now ≤ 64 }
-    ensures is { ExprAt bytes.now at names.now (row_of used code.old) result.at (row_of result.used code.new) }
-    ensures inside { result.at ≤ length bytes.now }
+fn fill_expr<'a>(text: &'a [u8], names: &[u64], code: &mut Slots<'_, u32>) -> &'a [u8]
+    requires { length names.now ≤ 64 }
+    ensures same { code.new.items.ghost_name ≡ code.old.items.ghost_name }
+    ensures is { ExprAt text.now names.now (row_in code.old) result.now (row_in code.new) }
 {
-    fill_term(bytes, at, names, code, used, bytes.len())
+    fill_term(text, names, code, text.len())
 }
 
 // The words of an expression after a space, and reading goes on at the next line.
-fn fill_head(bytes: &[u8], at: usize, names: &[u64], code: &mut [u32], used: usize) -> Placed
-    requires from { at ≤ length bytes.now }
-    requires few { length names.now ≤ 64 }
-    ensures is { HeadAt bytes.now at names.now (row_of used code.old) result.at (row_of result.used code.new) }
-    ensures inside { result.at ≤ length bytes.now }
+fn fill_head<'a>(text: &'a [u8], names: &[u64], code: &mut Slots<'_, u32>) -> &'a [u8]
+    requires { length names.now ≤ 64 }
+    ensures same { code.new.items.ghost_name ≡ code.old.items.ghost_name }
+    ensures is { HeadAt text.now names.now (row_in code.old) result.now (row_in code.new) }
 {
-    let value = fill_expr(bytes, skip(bytes, at, 1), names, code, used);
-    Placed {
-        at: skip(bytes, value.at, 1),
-        used: value.used,
-    }
+    let value = fill_expr(skip(text, 1), names, code);
+    skip(value, 1)
 }
 
-fn fill_say(bytes: &[u8], at: usize, names: &[u64], code: &mut [u32], used: usize) -> Placed
-    requires from { at ≤ length bytes.now }
-    requires few { length names.now ≤ 64 }
-    ensures is { SayAt bytes.now at names.now (row_of used code.old) result.at (row_of result.used code.new) }
-    ensures inside { result.at ≤ length bytes.now }
+fn fill_say<'a>(text: &'a [u8], names: &[u64], code: &mut Slots<'_, u32>) -> &'a [u8]
+    requires { length names.now ≤ 64 }
+    ensures same { code.new.items.ghost_name ≡ code.old.items.ghost_name }
+    ensures is { SayAt text.now names.now (row_in code.old) result.now (row_in code.new) }
 {
-    let opened = push(code, used, 3);
-    fill_head(bytes, at, names, code, opened)
+    code.push(u32::from(LineOp::Do(Act::Say)));
+    fill_head(text, names, code)
+}
+
+// The text behind an expression.
+fn skip_expr<'a>(text: &'a [u8], names: &[u64]) -> &'a [u8]
+    requires { length names.now ≤ 64 }
+    ensures { ExprAt text.now names.now (row_of 0 []) result.now (row_of 0 []) }
+{
+    let mut nothing = Slots {
+        items: &mut [],
+        used: 0,
+    };
+    fill_expr(text, names, &mut nothing)
 }
 
 // What is sent, to whom and after how long: the words of the last come first.
-fn fill_send(bytes: &[u8], at: usize, names: &[u64], code: &mut [u32], used: usize) -> Placed
-    requires from { at ≤ length bytes.now }
-    requires few { length names.now ≤ 64 }
-    ensures is { SendAt bytes.now at names.now (row_of used code.old) result.at (row_of result.used code.new) }
-    ensures inside { result.at ≤ length bytes.now }
+fn fill_send<'a>(text: &'a [u8], names: &[u64], code: &mut Slots<'_, u32>) -> &'a [u8]
+    requires { length names.now ≤ 64 }
+    ensures same { code.new.items.ghost_name ≡ code.old.items.ghost_name }
+    ensures is { SendAt text.now names.now (row_in code.old) result.now (row_in code.new) }
 {
-    let what = skip(bytes, at, 1);
-    let number = fill_expr(bytes, what, names, &mut [], 0);
-    let to = skip(bytes, number.at, 4);
-    let target = fill_expr(bytes, to, names, &mut [], 0);
-    let after = skip(bytes, target.at, 7);
-    let opened = push(code, used, 4);
-    let delay = fill_expr(bytes, after, names, code, opened);
-    let whom = fill_expr(bytes, to, names, code, delay.used);
-    let sent = fill_expr(bytes, what, names, code, whom.used);
-    Placed {
-        at: skip(bytes, delay.at, 1),
-        used: sent.used,
-    }
+    let what = skip(text, 1);
+    let to = skip(skip_expr(what, names), 4);
+    let after = skip(skip_expr(to, names), 7);
+    code.push(u32::from(LineOp::Do(Act::Send)));
+    let behind = fill_expr(after, names, code);
+    fill_expr(to, names, code);
+    fill_expr(what, names, code);
+    skip(behind, 1)
 }
 
-fn is_letter(b: u8) -> bool
-    ensures { result ≡ is_letter b }
+// Whether draw stands in front.
+fn is_draw(text: &[u8]) -> bool
+    ensures { DrawAt text.now result }
 {
-    b >= b'a' && b <= b'z'
-}
-
-// Whether draw stands at a place.
-fn is_draw(bytes: &[u8], at: usize) -> bool
-    requires { at ≤ length bytes.now }
-    ensures { DrawAt bytes.now at result }
-{
-    if !is_letter(byte_at(bytes, at)) {
+    if !words::begins_with_letter(text) {
         return false;
     }
-    let word = word_at(bytes, at);
-    match checker::word_by(word.word) {
-        Word::Draw => true,
-        _ => false,
-    }
+    let (word, _) = word_at(text);
+    matches!(word, Word::Draw)
 }
 
 // A number that is assigned or drawn, behind its name.
-fn fill_put(
-    bytes: &[u8],
-    at: usize,
-    name: u64,
-    names: &[u64],
-    code: &mut [u32],
-    used: usize,
-) -> Placed
-    requires from { at ≤ length bytes.now }
-    requires few { length names.now ≤ 64 }
-    ensures is { PutAt bytes.now at name names.now (row_of used code.old) result.at (row_of result.used code.new) }
-    ensures inside { result.at ≤ length bytes.now }
+fn fill_put<'a>(text: &'a [u8], name: u64, names: &[u64], code: &mut Slots<'_, u32>) -> &'a [u8]
+    requires { length names.now ≤ 64 }
+    ensures same { code.new.items.ghost_name ≡ code.old.items.ghost_name }
+    ensures is { PutAt text.now name names.now (row_in code.old) result.now (row_in code.new) }
 {
     let place = place_of(names, name) as u32;
-    let value = skip(bytes, at, 3);
-    if is_draw(bytes, value) {
-        let opened = push(code, used, 2);
-        let named = push(code, opened, place);
-        return fill_head(bytes, skip(bytes, value, 4), names, code, named);
+    let value = skip(text, 3);
+    if is_draw(value) {
+        code.push(u32::from(LineOp::Do(Act::Draw)));
+        code.push(place);
+        return fill_head(skip(value, 4), names, code);
     }
-    let opened = push(code, used, 1);
-    let named = push(code, opened, place);
-    fill_head(bytes, skip(bytes, at, 2), names, code, named)
+    code.push(u32::from(LineOp::Do(Act::Assign)));
+    code.push(place);
+    fill_head(skip(text, 2), names, code)
 }
 
 // A line with no lines in it, behind its first word.
-fn fill_simple(
-    bytes: &[u8],
-    first: Spelled,
-    word: Word,
-    names: &[u64],
-    code: &mut [u32],
-    used: usize,
-) -> Placed
-    requires from { first.at ≤ length bytes.now }
-    requires few { length names.now ≤ 64 }
-    ensures is { SimpleAt bytes.now word first.word first.at names.now (row_of used code.old) result.at (row_of result.used code.new) }
-    ensures inside { result.at ≤ length bytes.now }
+fn fill_simple<'a>(text: &'a [u8], word: Word, names: &[u64], code: &mut Slots<'_, u32>) -> &'a [u8]
+    requires { length names.now ≤ 64 }
+    ensures same { code.new.items.ghost_name ≡ code.old.items.ghost_name }
+    ensures is { SimpleAt text.now word names.now (row_in code.old) result.now (row_in code.new) }
 {
     match word {
-        Word::Say => fill_say(bytes, first.at, names, code, used),
-        Word::Send => fill_send(bytes, first.at, names, code, used),
-        _ => fill_put(bytes, first.at, first.word, names, code, used),
+        Word::Say => fill_say(text, names, code),
+        Word::Send => fill_send(text, names, code),
+        Word::Name(name) => fill_put(text, name, names, code),
+        _ => text,
     }
 }
 
@@ -339,227 +284,170 @@ fn fill_simple(
 fn between(from: usize, to: usize) -> u32
     ensures { result ≡ between from to }
 {
-    if from <= to {
-        ((to - from) % 4294967296) as u32
-    } else {
-        0
-    }
+    (to.saturating_sub(from) % 4294967296) as u32
 }
 
 // A branch, behind its first word. It says how many words the lines in it take, which is put when they are written; with no else there is one.
-#[cycle(fill_branch_fill_lines_fill_repeat)]
-fn fill_branch(
-    bytes: &[u8],
-    at: usize,
+#[cycle(lines)]
+fn fill_branch<'a>(
+    text: &'a [u8],
     names: &[u64],
-    code: &mut [u32],
-    used: usize,
+    code: &mut Slots<'_, u32>,
     most: usize,
-) -> Placed
-    requires from { at ≤ length bytes.now }
-    requires few { length names.now ≤ 64 }
-    ensures is { BranchAt bytes.now at names.now most (row_of used code.old) result.at (row_of result.used code.new) }
-    ensures inside { result.at ≤ length bytes.now }
+) -> &'a [u8]
+    requires { length names.now ≤ 64 }
+    ensures same { code.new.items.ghost_name ≡ code.old.items.ghost_name }
+    ensures is { BranchAt text.now names.now most (row_in code.old) result.now (row_in code.new) }
 {
-    let opened = push(code, used, 5);
-    let second = push(code, opened, 0);
-    let start = push(code, second, 0);
-    let head = fill_head(bytes, at, names, code, start);
-    let one = fill_lines(bytes, head.at, names, code, head.used, most);
-    put(code, opened, between(head.used, one.used));
-    if byte_at(bytes, skip(bytes, one.at, 1)) == b'l' {
-        let other = skip(bytes, one.at, 5);
-        let two = fill_lines(bytes, other, names, code, one.used, most);
-        put(code, second, between(one.used, two.used));
-        return Placed {
-            at: skip(bytes, two.at, 4),
-            used: two.used,
-        };
+    code.push(u32::from(LineOp::Branch));
+    let opened = code.used;
+    code.push(0);
+    let second = code.used;
+    code.push(0);
+    let head = fill_head(text, names, code);
+    let start = code.used;
+    let one = fill_lines(head, names, code, most);
+    let end = code.used;
+    code.set(opened, between(start, end));
+    if front(skip(one, 1)) == b'l' {
+        let two = fill_lines(skip(one, 5), names, code, most);
+        code.set(second, between(end, code.used));
+        return skip(two, 4);
     }
-    let none = push(code, one.used, 0);
-    put(code, second, 1);
-    Placed {
-        at: skip(bytes, one.at, 4),
-        used: none,
-    }
+    code.push(u32::from(LineOp::Stop));
+    code.set(second, 1);
+    skip(one, 4)
 }
 
 // A repeat, behind its first word. It says how many words the lines in it take.
-#[cycle(fill_branch_fill_lines_fill_repeat)]
-fn fill_repeat(
-    bytes: &[u8],
-    at: usize,
+#[cycle(lines)]
+fn fill_repeat<'a>(
+    text: &'a [u8],
     names: &[u64],
-    code: &mut [u32],
-    used: usize,
+    code: &mut Slots<'_, u32>,
     most: usize,
-) -> Placed
-    requires from { at ≤ length bytes.now }
-    requires few { length names.now ≤ 64 }
-    ensures is { RepeatAt bytes.now at names.now most (row_of used code.old) result.at (row_of result.used code.new) }
-    ensures inside { result.at ≤ length bytes.now }
+) -> &'a [u8]
+    requires { length names.now ≤ 64 }
+    ensures same { code.new.items.ghost_name ≡ code.old.items.ghost_name }
+    ensures is { RepeatAt text.now names.now most (row_in code.old) result.now (row_in code.new) }
 {
-    let opened = push(code, used, 6);
-    let start = push(code, opened, 0);
-    let head = fill_head(bytes, at, names, code, start);
-    let inner = fill_lines(bytes, head.at, names, code, head.used, most);
-    put(code, opened, between(head.used, inner.used));
-    Placed {
-        at: skip(bytes, inner.at, 4),
-        used: inner.used,
-    }
+    code.push(u32::from(LineOp::Repeat));
+    let opened = code.used;
+    code.push(0);
+    let head = fill_head(text, names, code);
+    let start = code.used;
+    let inner = fill_lines(head, names, code, most);
+    code.set(opened, between(start, code.used));
+    skip(inner, 4)
 }
 
 // The words of lines, at most so many; reading goes on at what closes them.
-#[cycle(fill_branch_fill_lines_fill_repeat)]
-fn fill_lines(
-    bytes: &[u8],
-    at: usize,
-    names: &[u64],
-    code: &mut [u32],
-    used: usize,
-    most: usize,
-) -> Placed
-    requires from { at ≤ length bytes.now }
-    requires few { length names.now ≤ 64 }
-    ensures is { LinesAt bytes.now at names.now most (row_of used code.old) result.at (row_of result.used code.new) }
-    ensures inside { result.at ≤ length bytes.now }
+#[cycle(lines)]
+fn fill_lines<'a>(text: &'a [u8], names: &[u64], code: &mut Slots<'_, u32>, most: usize) -> &'a [u8]
+    requires { length names.now ≤ 64 }
+    ensures same { code.new.items.ghost_name ≡ code.old.items.ghost_name }
+    ensures is { LinesAt text.now names.now most (row_in code.old) result.now (row_in code.new) }
 {
     if most == 0 {
-        return Placed { at, used };
+        return text;
     }
-    let first = word_at(bytes, at);
-    let word = checker::word_by(first.word);
+    let (word, rest) = word_at(text);
     match word {
         Word::If => {
-            let next = fill_branch(bytes, first.at, names, code, used, most - 1);
-            fill_lines(bytes, next.at, names, code, next.used, most - 1)
+            let next = fill_branch(rest, names, code, most - 1);
+            fill_lines(next, names, code, most - 1)
         }
         Word::Again => {
-            let next = fill_repeat(bytes, first.at, names, code, used, most - 1);
-            fill_lines(bytes, next.at, names, code, next.used, most - 1)
+            let next = fill_repeat(rest, names, code, most - 1);
+            fill_lines(next, names, code, most - 1)
         }
-        Word::Say | Word::Send | Word::Name => {
-            let next = fill_simple(bytes, first, word, names, code, used);
-            fill_lines(bytes, next.at, names, code, next.used, most - 1)
+        Word::End | Word::Else => {
+            code.push(u32::from(LineOp::Stop));
+            text
         }
-        _ => Placed {
-            at,
-            used: push(code, used, 0),
-        },
+        _ => {
+            let next = fill_simple(rest, word, names, code);
+            fill_lines(next, names, code, most - 1)
+        }
     }
 }
 
-// What a message says, and where the next begins.
-#[derive(Clone, Copy)]
-pub struct Noted {
-    pub time: u32,
-    pub to: u32,
-    pub number: u32,
-    pub at: usize,
-}
-
-fn note_at(bytes: &[u8], at: usize) -> Noted
-    requires { at ≤ length bytes.now }
-    ensures is { NoteAt bytes.now at result.time result.to result.number result.at }
-    ensures inside { result.at ≤ length bytes.now }
+// What a message says: its time, to whom, and the number; and the text behind.
+fn note_at(text: &[u8]) -> (u32, u32, u32, &[u8])
+    ensures { NoteAt text.now result.0 result.1 result.2 result.3.now }
 {
-    let time = number_at(bytes, skip(bytes, at, 8));
-    let to = number_at(bytes, skip(bytes, time.at, 1));
-    let number = number_at(bytes, skip(bytes, to.at, 1));
-    Noted {
-        time: time.number,
-        to: to.number,
-        number: number.number,
-        at: skip(bytes, number.at, 1),
-    }
+    let (time, rest) = number_at(skip(text, 8));
+    let (to, rest) = number_at(skip(rest, 1));
+    let (number, rest) = number_at(skip(rest, 1));
+    (time, to, number, skip(rest, 1))
 }
 
 // So many messages, which come from outside: from the number behind the last thing.
-fn fill_notes(bytes: &[u8], at: usize, things: usize, count: usize, messages: &mut [Message])
-    requires { at ≤ length bytes.now }
-    ensures { NotesAt bytes.now at things count messages.old messages.new }
+fn fill_notes(text: &[u8], things: usize, count: usize, messages: &mut Slots<'_, Message>)
+    requires { messages.old.used ≡ 0 }
+    ensures same { messages.new.items.ghost_name ≡ messages.old.items.ghost_name }
+    ensures is { NotesAt text.now things count messages.old.items.now messages.new.items.now }
 {
     let from = (things % 4294967296) as u32;
-    let mut place = at;
-    let mut used = 0;
+    let mut rest = text;
     for k in 0..count {
-        let note = note_at(bytes, place);
-        let message = Message {
-            time: note.time as u64,
-            to: note.to,
+        let (time, to, number, behind) = note_at(rest);
+        messages.push(Message {
+            time: time as u64,
+            to,
             from,
             count: k as u64,
-            number: note.number,
-        };
-        used = push(messages, used, message);
-        place = note.at;
+            number,
+        });
+        rest = behind;
     }
 }
 
-// Where a row in the text ends, how many places are in use, and how many of the row's are taken.
-#[derive(Clone, Copy)]
-pub struct Filled {
-    pub at: usize,
-    pub used: usize,
-    pub width: u32,
-}
-
-// The numbers of a thing, with 0 in the places that are left.
-fn fill_numbers(bytes: &[u8], at: usize, vars: &mut [u32], used: usize, left: usize) -> Filled
-    requires from { at ≤ length bytes.now }
-    requires few { left ≤ 64 }
-    ensures is { NumbersAt bytes.now at left (row_of used vars.old) result.at result.width (row_of result.used vars.new) }
-    ensures inside { result.at ≤ length bytes.now }
-    ensures narrow { result.width ≤ left }
+// The numbers of a thing, with 0 in the places that are left; how many there are, and the text behind.
+fn fill_numbers<'a>(text: &'a [u8], vars: &mut Slots<'_, u32>, left: usize) -> (u32, &'a [u8])
+    requires { left ≤ 64 }
+    ensures same { vars.new.items.ghost_name ≡ vars.old.items.ghost_name }
+    ensures is { NumbersAt text.now left (row_in vars.old) result.1.now result.0 (row_in vars.new) }
+    ensures narrow { result.0 ≤ left }
 {
     if left == 0 {
-        return Filled { at, used, width: 0 };
+        return (0, text);
     }
-    if byte_at(bytes, at) != b' ' {
-        let next = push(vars, used, 0);
-        return fill_numbers(bytes, at, vars, next, left - 1);
+    if front(text) != b' ' {
+        vars.push(0);
+        return fill_numbers(text, vars, left - 1);
     }
-    let digits = number_at(bytes, skip(bytes, at, 1));
-    let next = push(vars, used, digits.number);
-    let rest = fill_numbers(bytes, digits.at, vars, next, left - 1);
-    Filled {
-        at: rest.at,
-        used: rest.used,
-        width: rest.width + 1,
-    }
+    let (number, rest) = number_at(skip(text, 1));
+    vars.push(number);
+    let (width, rest) = fill_numbers(rest, vars, left - 1);
+    (width + 1, rest)
 }
 
-// The names of a kind's numbers, packed, with 0 in the places that are left.
-fn fill_names(bytes: &[u8], at: usize, names: &mut [u64], used: usize, left: usize) -> Filled
-    requires from { at ≤ length bytes.now }
-    requires few { left ≤ 64 }
-    ensures is { NamesAt bytes.now at left (row_of used names.old) result.at result.width (row_of result.used names.new) }
-    ensures inside { result.at ≤ length bytes.now }
-    ensures narrow { result.width ≤ left }
+// The names of a kind's numbers, packed, with 0 in the places that are left; how many there are, and the text behind.
+fn fill_names<'a>(text: &'a [u8], names: &mut Slots<'_, u64>, left: usize) -> (u32, &'a [u8])
+    requires { left ≤ 64 }
+    ensures same { names.new.items.ghost_name ≡ names.old.items.ghost_name }
+    ensures is { NamesAt text.now left (row_in names.old) result.1.now result.0 (row_in names.new) }
+    ensures narrow { result.0 ≤ left }
 {
     if left == 0 {
-        return Filled { at, used, width: 0 };
+        return (0, text);
     }
-    if byte_at(bytes, at) != b' ' {
-        let next = push(names, used, 0);
-        return fill_names(bytes, at, names, next, left - 1);
+    if front(text) != b' ' {
+        names.push(0);
+        return fill_names(text, names, left - 1);
     }
-    let name = word_at(bytes, skip(bytes, at, 1));
-    let next = push(names, used, name.word);
-    let rest = fill_names(bytes, name.at, names, next, left - 1);
-    Filled {
-        at: rest.at,
-        used: rest.used,
-        width: rest.width + 1,
-    }
+    let (name, rest) = name_at(skip(text, 1));
+    names.push(name);
+    let (width, rest) = fill_names(rest, names, left - 1);
+    (width + 1, rest)
 }
 
-// The packed name at a place, or 0.
-fn name_at(names: &[u64], at: usize) -> u64
-    ensures { result ≡ slice_index names.now at }
+// The first name of a row, or that of no bytes.
+fn front_name(names: &[u64]) -> u64
+    ensures { result ≡ slice_index names.now 0 }
 {
-    if at < names.len() { names[at] } else { 0 }
+    names.first().copied().unwrap_or(0)
 }
 
 // The place of a kind among the first so many, each with its name in front of 64 others.
@@ -567,47 +455,44 @@ fn kind_of(names: &[u64], count: usize, name: u64) -> usize
     ensures is { result ≡ place_of name (firsts count names.now) }
     ensures inside { result ≤ count }
 {
-    let mut at = 0;
+    let mut rows = names;
     for j in 0..count {
-        if name_at(names, at) == name {
+        if front_name(rows) == name {
             return j;
         }
-        at = skip(names, at, 65);
+        rows = skip(rows, 65);
     }
     count
 }
 
 // So many things, of so many kinds.
-fn fill_things(
-    bytes: &[u8],
-    at: usize,
+fn fill_things<'a>(
+    text: &'a [u8],
     kinds: usize,
     names: &[u64],
     count: usize,
-    processes: &mut [Process],
-    vars: &mut [u32],
-) -> usize
-    requires { at ≤ length bytes.now }
-    ensures is { ThingsAt bytes.now at kinds names.now count result processes.old vars.old processes.new vars.new }
-    ensures inside { result ≤ length bytes.now }
+    processes: &mut Slots<'_, Process>,
+    vars: &mut Slots<'_, u32>,
+) -> &'a [u8]
+    requires processes { processes.old.used ≡ 0 }
+    requires vars { vars.old.used ≡ 0 }
+    ensures same { processes.new.items.ghost_name ≡ processes.old.items.ghost_name }
+    ensures same_vars { vars.new.items.ghost_name ≡ vars.old.items.ghost_name }
+    ensures is { ThingsAt text.now kinds names.now count result.now processes.old.items.now vars.old.items.now processes.new.items.now vars.new.items.now }
 {
-    let mut place = at;
-    let mut made = 0;
-    let mut used = 0;
+    let mut rest = text;
     for _i in 0..count {
-        let kind = word_at(bytes, skip(bytes, place, 6));
-        let row = fill_numbers(bytes, kind.at, vars, used, 64);
-        let process = Process {
-            kind: (kind_of(names, kinds, kind.word) % 4294967296) as u32,
-            width: row.width,
+        let (name, numbers) = name_at(skip(rest, 6));
+        let (width, behind) = fill_numbers(numbers, vars, 64);
+        processes.push(Process {
+            kind: (kind_of(names, kinds, name) % 4294967296) as u32,
+            width,
             seed: 0,
             sent: 0,
-        };
-        made = push(processes, made, process);
-        used = row.used;
-        place = skip(bytes, row.at, 1);
+        });
+        rest = skip(behind, 1);
     }
-    place
+    rest
 }
 
 // So many names from a place on, if there are so many.
@@ -615,69 +500,49 @@ fn part(names: &[u64], from: usize, n: usize) -> &[u64]
     ensures is { from + n ≤ length names.now → result.now ≡ take n (drop from names.now) }
     ensures few { length result.now ≤ n }
 {
-    if n <= names.len() && from <= names.len() - n {
-        &names[from..from + n]
-    } else {
-        &names[0..0]
-    }
-}
-
-// Where the next kind begins, and how many names and words are in use.
-#[derive(Clone, Copy)]
-pub struct Kept {
-    pub at: usize,
-    pub named: usize,
-    pub used: usize,
+    let behind = skip(names, from);
+    if n <= behind.len() { &behind[..n] } else { &[] }
 }
 
 // The names and the words of a kind.
-fn fill_kind(
-    bytes: &[u8],
-    at: usize,
-    names: &mut [u64],
-    named: usize,
-    code: &mut [u32],
-    used: usize,
-) -> Kept
-    requires { at ≤ length bytes.now }
-    ensures is { KindAt bytes.now at (row_of named names.old) (row_of used code.old) result.at (row_of result.named names.new) (row_of result.used code.new) }
-    ensures inside { result.at ≤ length bytes.now }
+fn fill_kind<'a>(text: &'a [u8], names: &mut Slots<'_, u64>, code: &mut Slots<'_, u32>) -> &'a [u8]
+    ensures same { names.new.items.ghost_name ≡ names.old.items.ghost_name }
+    ensures same_code { code.new.items.ghost_name ≡ code.old.items.ghost_name }
+    ensures is { KindAt text.now (row_in names.old) (row_in code.old) result.now (row_in names.new) (row_in code.new) }
 {
-    let name = word_at(bytes, skip(bytes, at, 5));
-    let start = push(names, named, name.word);
-    let row = fill_names(bytes, name.at, names, start, 64);
-    let own = part(names, start, row.width as usize);
-    let lines = fill_lines(bytes, skip(bytes, row.at, 1), own, code, used, bytes.len());
-    Kept {
-        at: skip(bytes, lines.at, 4),
-        named: row.used,
-        used: lines.used,
-    }
+    let (name, numbers) = name_at(skip(text, 5));
+    names.push(name);
+    let start = names.used;
+    let (width, rest) = fill_names(numbers, names, 64);
+    let items = &mut *names.items;
+    let own = part(items, start, width as usize);
+    let lines = skip(rest, 1);
+    let end = fill_lines(lines, own, code, lines.len());
+    skip(end, 4)
 }
 
 // So many kinds.
-fn fill_kinds(
-    bytes: &[u8],
+fn fill_kinds<'a>(
+    text: &'a [u8],
     count: usize,
-    code: &mut [u32],
-    kinds: &mut [u32],
-    names: &mut [u64],
-) -> usize
-    ensures is { KindsAt bytes.now count result code.old kinds.old names.old code.new kinds.new names.new }
-    ensures inside { result ≤ length bytes.now }
+    code: &mut Slots<'_, u32>,
+    kinds: &mut Slots<'_, u32>,
+    names: &mut Slots<'_, u64>,
+) -> &'a [u8]
+    requires code { code.old.used ≡ 0 }
+    requires kinds { kinds.old.used ≡ 0 }
+    requires names { names.old.used ≡ 0 }
+    ensures same_code { code.new.items.ghost_name ≡ code.old.items.ghost_name }
+    ensures same_kinds { kinds.new.items.ghost_name ≡ kinds.old.items.ghost_name }
+    ensures same_names { names.new.items.ghost_name ≡ names.old.items.ghost_name }
+    ensures is { KindsAt text.now count result.now code.old.items.now kinds.old.items.now names.old.items.now code.new.items.now kinds.new.items.now names.new.items.now }
 {
-    let mut place = 0;
-    let mut named = 0;
-    let mut used = 0;
-    let mut begun = 0;
+    let mut rest = text;
     for _i in 0..count {
-        let kind = fill_kind(bytes, place, names, named, code, used);
-        begun = push(kinds, begun, (used % 4294967296) as u32);
-        named = kind.named;
-        used = kind.used;
-        place = kind.at;
+        kinds.push((code.used % 4294967296) as u32);
+        rest = fill_kind(rest, names, code);
     }
-    place
+    rest
 }
 
 // How many kinds, things and messages a text has.
@@ -689,74 +554,69 @@ pub struct Amounts {
 }
 
 // Lent slices filled from a text that keeps all rules and has so many kinds, things and messages, if they are long enough.
-pub fn fill(
-    bytes: &[u8],
-    amounts: Amounts,
-    code: &mut [u32],
-    kinds: &mut [u32],
-    names: &mut [u64],
-    processes: &mut [Process],
-    vars: &mut [u32],
-    messages: &mut [Message],
-)
-    ensures { (t : Text) → IsText bytes.now t → Keeps t → length t.kinds ≡ amounts.kinds → length t.things ≡ amounts.things → length t.notes ≡ amounts.notes →
-        roomy t (slices code.old kinds.old names.old processes.old vars.old messages.old) ≡ true →
-        slices code.new kinds.new names.new processes.new vars.new messages.new
-        ≡ filled t (slices code.old kinds.old names.old processes.old vars.old messages.old) }
+pub fn fill(bytes: &[u8], amounts: Amounts, lent: &mut Lent<'_>)
+    ensures same { SameLent lent.old lent.new }
+    ensures is { (t : Text) → IsText bytes.now t → Keeps t → length t.kinds ≡ amounts.kinds → length t.things ≡ amounts.things → length t.notes ≡ amounts.notes →
+        roomy t (slices_in lent.old) ≡ true → slices_in lent.new ≡ filled t (slices_in lent.old) }
 {
-    let things = fill_kinds(bytes, amounts.kinds, code, kinds, names);
+    let mut code = Slots {
+        items: &mut *lent.code,
+        used: 0,
+    };
+    let mut kinds = Slots {
+        items: &mut *lent.kinds,
+        used: 0,
+    };
+    let mut names = Slots {
+        items: &mut *lent.names,
+        used: 0,
+    };
+    let mut processes = Slots {
+        items: &mut *lent.processes,
+        used: 0,
+    };
+    let mut vars = Slots {
+        items: &mut *lent.vars,
+        used: 0,
+    };
+    let mut messages = Slots {
+        items: &mut *lent.messages,
+        used: 0,
+    };
+    let things = fill_kinds(bytes, amounts.kinds, &mut code, &mut kinds, &mut names);
+    let names = &mut *names.items;
     let notes = fill_things(
-        bytes,
         things,
         amounts.kinds,
         names,
         amounts.things,
-        processes,
-        vars,
+        &mut processes,
+        &mut vars,
     );
-    fill_notes(bytes, notes, amounts.things, amounts.notes, messages);
+    fill_notes(notes, amounts.things, amounts.notes, &mut messages);
 }
 
 // Whether lent slices are long enough for a text of that extent.
-fn is_roomy(
-    extent: Extent,
-    code: &[u32],
-    kinds: &[u32],
-    names: &[u64],
-    processes: &[Process],
-    vars: &[u32],
-    messages: &[Message],
-) -> bool
+fn is_roomy(extent: Extent, lent: &Lent<'_>) -> bool
     requires kinds { extent.kinds ≤ 4096 }
     requires things { extent.things ≤ 65536 }
-    ensures { result ≡ roomy_for extent (slices code.now kinds.now names.now processes.now vars.now messages.now) }
+    ensures { result ≡ roomy_for extent (slices_in lent.now) }
 {
-    extent.lines <= code.len()
-        && extent.kinds <= kinds.len()
-        && 65 * extent.kinds <= names.len()
-        && extent.things <= processes.len()
-        && 64 * extent.things <= vars.len()
-        && extent.notes <= messages.len()
+    extent.lines <= lent.code.len()
+        && extent.kinds <= lent.kinds.len()
+        && 65 * extent.kinds <= lent.names.len()
+        && extent.things <= lent.processes.len()
+        && 64 * extent.things <= lent.vars.len()
+        && extent.notes <= lent.messages.len()
 }
 
 // A text is read into lent slices. A refusal has changed nothing that was lent.
-pub fn load(
-    bytes: &[u8],
-    code: &mut [u32],
-    kinds: &mut [u32],
-    names: &mut [u64],
-    processes: &mut [Process],
-    vars: &mut [u32],
-    messages: &mut [Message],
-) -> Result<Extent, Refusal>
-    ensures { Loaded bytes.now (slices code.old kinds.old names.old processes.old vars.old messages.old)
-        (slices code.new kinds.new names.new processes.new vars.new messages.new) result }
+pub fn load(bytes: &[u8], lent: &mut Lent<'_>) -> Result<Extent, Refusal>
+    ensures same { SameLent lent.old lent.new }
+    ensures is { Loaded bytes.now (slices_in lent.old) (slices_in lent.new) result }
 {
-    let extent = match check(bytes) {
-        Ok(extent) => extent,
-        Err(refusal) => return Err(refusal),
-    };
-    if !is_roomy(extent, code, kinds, names, processes, vars, messages) {
+    let extent = check(bytes)?;
+    if !is_roomy(extent, lent) {
         return Err(Refusal {
             rule: Rule::Lent,
             place: 4,
@@ -767,8 +627,6 @@ pub fn load(
         things: extent.things,
         notes: extent.notes,
     };
-    fill(
-        bytes, amounts, code, kinds, names, processes, vars, messages,
-    );
+    fill(bytes, amounts, lent);
     Ok(extent)
 }

@@ -1,6 +1,6 @@
 // The text of what lent slices hold, written into lent bytes.
 ghost use Rattle.std.specs.Prelude.{◌≡◌, ℕ, List, ◌∷◌, [], ◌==◌, map, position, take, slice_index};
-ghost use Rattle.checker.specs.Words.{unpack};
+ghost use Rattle.words.specs.Words.{unpack};
 ghost use Rattle.text.specs.Named.{digits, digits_upto, kind_text, note_text};
 ghost use Rattle.text.specs.Written.{Writes, Wrote, Opened, WritesText, Written, sign_of, else_head, lines_bytes, held_kind, kind_name, thing_of, kinds_bytes, things_bytes, notes_bytes, text_bytes};
 ghost use Rattle.body.specs.Code.{expr_of, body_of};

@@ -1,27 +1,38 @@
-use Rattle.std.proofs.Common.{ap}
+use Rattle.std.proofs.Common.{refl, ap, ◌∙◌}
+use Rattle.text.specs.Slots.{row_in}
 use Rattle.text.specs.Writes.{row_of}
-use Rattle.text.proofs.Wholes.{kinds_more, kinds_done}
+use Rattle.text.proofs.Wholes.{kinds_begin, kinds_more, kinds_done}
 use Rattle.text.proofs.loader.fill_kinds.Goals as goal
+
+pub loop-i-init : goal.loop-i-init
+loop-i-init c =
+    (refl, refl, refl, λ ks k e s r h m n l. kinds_begin c.args.text.now c.args.count ks k _ _ _ c.requires.code c.requires.kinds c.requires.names e s r h m n l)
 
 pub loop-i-preserved : goal.loop-i-preserved
 loop-i-preserved c = (
-  c.fill_kind-kind.ensures.inside,
+  c.fill_kind-rest.ensures.same_code ∙ c.loop-i.invariant.0,
+  c.push.ensures.same ∙ c.loop-i.invariant.1,
+  c.fill_kind-rest.ensures.same ∙ c.loop-i.invariant.2,
   λ ks k e s r h m n l.
-      kinds_more c.args.bytes.now c.loop-i.place c.loop-i._i c.args.count ks k (row_of c.loop-i.used c.loop-i.code) (row_of 0 c.args.code.now)
-      (row_of c.loop-i.begun c.loop-i.kinds) (row_of 0 c.args.kinds.now) (row_of c.loop-i.named c.loop-i.names) (row_of 0 c.args.names.now)
-      c.fill_kind-kind.result.at (row_of c.fill_kind-kind.result.named c.fill_kind-kind.new.names) (row_of c.fill_kind-kind.result.used c.fill_kind-kind.new.code)
-      (row_of c.push-begun.result c.push-begun.new.items) c.loop-i-test.true c.fill_kind-kind.ensures.is c.push-begun.ensures (c.loop-i.invariant.1 ks k e s r h m n l),
+      kinds_more c.loop-i.rest.now c.loop-i._i c.args.count ks k (row_in c.loop-i.code) (row_of 0 c.args.code.now.items.now) (row_in c.loop-i.kinds) (row_of 0 c.args.kinds.now.items.now) (row_in c.loop-i.names) (row_of 0 c.args.names.now.items.now)
+      c.fill_kind-rest.result.now (row_in c.fill_kind-rest.new.names) (row_in c.fill_kind-rest.new.code) (row_in c.push.new.self) c.loop-i-test.true c.fill_kind-rest.ensures.is c.push.ensures.is
+      (c.loop-i.invariant.3 ks k e s r h m n l),
 )
 
-pub returns : goal.returns
-returns c =
-    record {
-      is =
-          λ ks k e s r h m n l.
-          (let q =
-          kinds_done c.args.bytes.now c.loop-i.place c.loop-i._i c.args.count ks k (row_of c.loop-i.used c.loop-i.code) (row_of 0 c.args.code.now)
-          (row_of c.loop-i.begun c.loop-i.kinds) (row_of 0 c.args.kinds.now) (row_of c.loop-i.named c.loop-i.names) (row_of 0 c.args.names.now)
-          c.loop-i-test.false (c.loop-i.invariant.1 ks k e s r h m n l) in
-          record { goes_on = q.0; code_is = ap (λ x. x.items) q.1; kinds_are = ap (λ x. x.items) q.2; names_are = ap (λ x. x.items) q.3 });
-      inside = c.loop-i.invariant.0;
-    }
+pub returns-clause-same_code : goal.returns-clause-same_code
+returns-clause-same_code c =
+    c.loop-i.invariant.0
+
+pub returns-clause-same_kinds : goal.returns-clause-same_kinds
+returns-clause-same_kinds c =
+    c.loop-i.invariant.1
+
+pub returns-clause-same_names : goal.returns-clause-same_names
+returns-clause-same_names c =
+    c.loop-i.invariant.2
+
+pub returns-clause-is : goal.returns-clause-is
+returns-clause-is c =
+    λ ks k e s r h m n l.
+    (let q = kinds_done c.loop-i.rest.now c.loop-i._i c.args.count ks k (row_in c.loop-i.code) (row_of 0 c.args.code.now.items.now) (row_in c.loop-i.kinds) (row_of 0 c.args.kinds.now.items.now) (row_in c.loop-i.names) (row_of 0 c.args.names.now.items.now) c.loop-i-test.false (c.loop-i.invariant.3 ks k e s r h m n l) in
+    record { goes_on = q.0; code_is = ap (λ x. x.items) q.1; kinds_are = ap (λ x. x.items) q.2; names_are = ap (λ x. x.items) q.3 })

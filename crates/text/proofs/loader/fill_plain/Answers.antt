@@ -1,26 +1,16 @@
-use Rattle.std.proofs.Common.{[], ◌∷◌, sym, ap, ◌∙◌}
+use Rattle.std.proofs.Common.{[], ◌∷◌, ap, ◌∙◌, sym}
+use Rattle.text.specs.Slots.{row_in}
+use Rattle.text.specs.Writes.{writes}
 use Rattle.grammar.specs.Syntax.{is_digit}
-use Rattle.text.specs.Writes.{row_of, writes}
 use Rattle.text.proofs.FillTerms.{plain_digits, plain_word}
 use Rattle.text.proofs.loader.fill_plain.Goals as goal
 
-pub returns-then-is_digit : goal.returns-then-is_digit
+pub returns-then-is_ascii_digit-clause-is : goal.returns-then-is_ascii_digit-clause-is
 unfolding writes
-returns-then-is_digit c =
-    record {
-      is =
-          plain_digits c.args.bytes.now c.args.names.now c.args.at c.number_at-digits.result.at (row_of c.args.used c.args.code.now)
-          (row_of c.push.result c.push.new.items) c.number_at-digits.result.number (sym (c.if-is_digit.ensures ∙ ap is_digit c.byte_at.ensures))
-          c.number_at-digits.ensures.is (c.push.ensures ∙ ap (writes (c.number_at-digits.result.number ∷ [])) c.push-opened.ensures);
-      inside = c.number_at-digits.ensures.inside;
-    }
+returns-then-is_ascii_digit-clause-is c =
+    plain_digits c.args.names.now c.args.text.now c.number_at-number.result.1.now (row_in c.args.code.now) (row_in c.push-then-is_ascii_digit.new.self) c.number_at-number.result.0 (ap is_digit (sym c.front.ensures) ∙ sym c.if-is_ascii_digit.ensures.value) c.number_at-number.ensures
+    (c.push-then-is_ascii_digit.ensures.is ∙ ap (writes (c.number_at-number.result.0 ∷ [])) (c.push.ensures.is ∙ ap (λ x. writes (x ∷ []) (row_in c.args.code.now)) c.from.ensures))
 
-pub returns : goal.returns
-returns c =
-    record {
-      is =
-          plain_word c.args.bytes.now c.args.names.now c.args.at c.word_at-word.result.at (row_of c.args.used c.args.code.now)
-          (row_of c.fill_operand.result c.fill_operand.new.code) c.word_at-word.result.word (sym (c.if-is_digit.ensures ∙ ap is_digit c.byte_at.ensures))
-          c.word_at-word.ensures.is c.fill_operand.ensures;
-      inside = c.word_at-word.ensures.inside;
-    }
+pub returns-clause-is : goal.returns-clause-is
+returns-clause-is c =
+    plain_word c.args.names.now c.args.text.now c.word_at-word.result.1.now (row_in c.args.code.now) (row_in c.fill_operand.new.code) c.word_at-word.result.0 (ap is_digit (sym c.front.ensures) ∙ sym c.if-is_ascii_digit.ensures.value) c.word_at-word.ensures c.fill_operand.ensures.is

@@ -1,12 +1,9 @@
-use Rattle.text.specs.Writes.{row_of}
+use Rattle.std.proofs.Common.{[], ◌∷◌, ap, ◌∙◌}
+use Rattle.text.specs.Slots.{row_in}
+use Rattle.text.specs.Writes.{writes}
 use Rattle.text.proofs.Simple.{say_by}
 use Rattle.text.proofs.loader.fill_say.Goals as goal
 
-pub returns : goal.returns
-returns c =
-    record {
-      is =
-          say_by c.args.bytes.now c.args.names.now c.args.at (row_of c.args.used c.args.code.now) (row_of c.push-opened.result c.push-opened.new.items)
-          c.fill_head.result.at (row_of c.fill_head.result.used c.fill_head.new.code) c.push-opened.ensures c.fill_head.ensures.is;
-      inside = c.fill_head.ensures.inside;
-    }
+pub returns-clause-is : goal.returns-clause-is
+returns-clause-is c =
+    say_by c.args.names.now c.args.text.now (row_in c.args.code.now) (row_in c.push.new.self) c.fill_head.result.now (row_in c.fill_head.new.code) (c.push.ensures.is ∙ ap (λ x. writes (x ∷ []) (row_in c.args.code.now)) c.from.ensures) c.fill_head.ensures.is

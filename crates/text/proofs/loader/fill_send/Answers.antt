@@ -1,18 +1,11 @@
-use Rattle.text.specs.Writes.{row_of}
+use Rattle.std.proofs.Common.{[], ◌∷◌, ap, ◌∙◌}
+use Rattle.text.specs.Slots.{row_in}
+use Rattle.text.specs.Writes.{writes}
 use Rattle.text.proofs.Simple.{send_by}
 use Rattle.text.proofs.loader.fill_send.Goals as goal
 
-pub returns : goal.returns
-returns c =
-    record {
-      is =
-          send_by c.args.bytes.now c.args.names.now c.args.at c.skip-what.result c.fill_expr-number.result.at c.skip-to.result c.fill_expr-target.result.at c.skip-after.result
-          _ (row_of c.fill_expr-number.result.used c.fill_expr-number.new.code) _ (row_of c.fill_expr-target.result.used c.fill_expr-target.new.code)
-          (row_of c.args.used c.args.code.now) (row_of c.push-opened.result c.push-opened.new.items)
-          c.fill_expr-delay.result.at (row_of c.fill_expr-delay.result.used c.fill_expr-delay.new.code)
-          c.fill_expr-whom.result.at (row_of c.fill_expr-whom.result.used c.fill_expr-whom.new.code)
-          c.fill_expr-sent.result.at (row_of c.fill_expr-sent.result.used c.fill_expr-sent.new.code) c.skip.result
-          c.skip-what.ensures.on c.fill_expr-number.ensures.is c.skip-to.ensures.on c.fill_expr-target.ensures.is c.skip-after.ensures.on
-          c.push-opened.ensures c.fill_expr-delay.ensures.is c.fill_expr-whom.ensures.is c.fill_expr-sent.ensures.is c.skip.ensures.on;
-      inside = c.skip.ensures.inside;
-    }
+pub returns-clause-is : goal.returns-clause-is
+returns-clause-is c =
+    send_by c.args.names.now c.args.text.now c.skip-what.result.now c.skip_expr.result.now c.skip-to.result.now c.skip_expr-2.result.now c.skip-after.result.now _ _ _ _ (row_in c.args.code.now) (row_in c.push.new.self)
+    c.fill_expr-behind.result.now (row_in c.fill_expr-behind.new.code) c.fill_expr.result.now (row_in c.fill_expr.new.code) c.fill_expr-2.result.now (row_in c.fill_expr-2.new.code) c.skip.result.now
+    c.skip-what.ensures c.skip_expr.ensures c.skip-to.ensures c.skip_expr-2.ensures c.skip-after.ensures (c.push.ensures.is ∙ ap (λ x. writes (x ∷ []) (row_in c.args.code.now)) c.from.ensures) c.fill_expr-behind.ensures.is c.fill_expr.ensures.is c.fill_expr-2.ensures.is c.skip.ensures

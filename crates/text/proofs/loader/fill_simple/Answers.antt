@@ -1,24 +1,19 @@
-use Rattle.std.proofs.Common.{sym, ◌∙◌}
-use Rattle.text.proofs.Simple.{say_not_send, say_not_name, send_not_say, send_not_name}
+use Rattle.text.specs.Slots.{row_in}
+use Rattle.text.proofs.Simple.{simple_say, simple_send, simple_put, simple_none}
 use Rattle.text.proofs.loader.fill_simple.Goals as goal
 
-pub returns-in-Say : goal.returns-in-Say
-returns-in-Say c =
-    record {
-      is = record { says = λ e. c.fill_say.ensures.is; sends = λ e. absurd (say_not_send (sym c.in-Say.is ∙ e)); puts = λ e. absurd (say_not_name (sym c.in-Say.is ∙ e)) };
-      inside = c.fill_say.ensures.inside;
-    }
+pub returns-in-Say-clause-is : goal.returns-in-Say-clause-is
+returns-in-Say-clause-is c =
+    simple_say c.args.text.now c.args.names.now c.args.word (row_in c.args.code.now) c.fill_say.result.now (row_in c.fill_say.new.code) c.in-Say.is c.fill_say.ensures.is
 
-pub returns-in-Send : goal.returns-in-Send
-returns-in-Send c =
-    record {
-      is = record { says = λ e. absurd (send_not_say (sym c.in-Send.is ∙ e)); sends = λ e. c.fill_send.ensures.is; puts = λ e. absurd (send_not_name (sym c.in-Send.is ∙ e)) };
-      inside = c.fill_send.ensures.inside;
-    }
+pub returns-in-Send-clause-is : goal.returns-in-Send-clause-is
+returns-in-Send-clause-is c =
+    simple_send c.args.text.now c.args.names.now c.args.word (row_in c.args.code.now) c.fill_send.result.now (row_in c.fill_send.new.code) c.in-Send.is c.fill_send.ensures.is
 
-pub returns-in_default : goal.returns-in_default
-returns-in_default c =
-    record {
-      is = record { says = λ e. absurd (c.in_default.not-Say e); sends = λ e. absurd (c.in_default.not-Send e); puts = λ e. c.fill_put.ensures.is };
-      inside = c.fill_put.ensures.inside;
-    }
+pub returns-in-Name-clause-is : goal.returns-in-Name-clause-is
+returns-in-Name-clause-is c =
+    simple_put c.args.text.now c.args.names.now c.args.word (row_in c.args.code.now) c.fill_put.result.now (row_in c.fill_put.new.code) c.in-Name.name c.in-Name.is c.fill_put.ensures.is
+
+pub returns-in_default-clause-is : goal.returns-in_default-clause-is
+returns-in_default-clause-is c =
+    simple_none c.args.text.now c.args.names.now c.args.word _ _ _ c.in_default.not-Say c.in_default.not-Send c.in_default.not-Name

@@ -1,6 +1,10 @@
-use Rattle.std.proofs.Common.{sym}
-use Rattle.std.proofs.lemmas.List.{get_or_past}
+use Rattle.text.proofs.Leaves.{name_is, name_not}
 use Rattle.text.proofs.loader.name_at.Goals as goal
 
-pub returns-else-at-names : goal.returns-else-at-names
-returns-else-at-names c = sym (get_or_past c.args.names.now c.args.at 0 c.if-at-names.false)
+pub returns-in-Ok : goal.returns-in-Ok
+returns-in-Ok c =
+    name_is c.args.text.now _ _ c.in-Ok.ensures
+
+pub returns-in-Err : goal.returns-in-Err
+returns-in-Err c =
+    name_not c.args.text.now _ _ _ c.in-Err.ensures

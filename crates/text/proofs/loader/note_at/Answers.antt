@@ -3,10 +3,5 @@ use Rattle.text.proofs.loader.note_at.Goals as goal
 
 pub returns : goal.returns
 returns c =
-    record {
-      is =
-          note_by c.args.bytes.now c.args.at c.skip.result c.number_at-time.result.number c.number_at-time.result.at c.skip-2.result c.number_at-to.result.number
-          c.number_at-to.result.at c.skip-3.result c.number_at-number.result.number c.number_at-number.result.at c.skip-4.result
-          c.skip.ensures.on c.number_at-time.ensures.is c.skip-2.ensures.on c.number_at-to.ensures.is c.skip-3.ensures.on c.number_at-number.ensures.is c.skip-4.ensures.on;
-      inside = c.skip-4.ensures.inside;
-    }
+    note_by c.args.text.now c.skip.result.now c.number_at-time.result.0 c.number_at-time.result.1.now c.skip-2.result.now c.number_at-to.result.0 c.number_at-to.result.1.now c.skip-3.result.now
+    c.number_at-number.result.0 c.number_at-number.result.1.now c.skip-4.result.now c.skip.ensures c.number_at-time.ensures c.skip-2.ensures c.number_at-to.ensures c.skip-3.ensures c.number_at-number.ensures c.skip-4.ensures

@@ -1,5 +1,5 @@
 use Rattle.std.proofs.Common.{◌-◌, refl, ap, ◌∙◌, arith}
-use Rattle.checker.specs.Words.{unpack_upto}
+use Rattle.words.specs.Words.{unpack_upto}
 use Rattle.text.proofs.Words.{unpack_zero, unpack_none, unpack_more}
 use Rattle.text.proofs.Spills.{lost, ahead_all, ahead_more, ahead_passed, ahead_done}
 use Rattle.text.proofs.writer.Out.write_name.Goals as goal

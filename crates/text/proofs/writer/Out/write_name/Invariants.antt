@@ -1,5 +1,5 @@
 use Rattle.std.proofs.Common.{◌-◌}
-use Rattle.checker.specs.Words.{unpack, unpack_upto}
+use Rattle.words.specs.Words.{unpack, unpack_upto}
 use Rattle.text.specs.Written.{Ahead}
 use Rattle.text.proofs.writer.Out.write_name.Given as goal
 

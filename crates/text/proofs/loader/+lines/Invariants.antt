@@ -1,5 +1,5 @@
 use Rattle.std.proofs.Common.{◌+◌, ◌*◌}
-use Rattle.text.proofs.loader.+fill_branch_fill_lines_fill_repeat.Given as goal
+use Rattle.text.proofs.loader.+lines.Given as goal
 
 abbrev pub decreases-fill_branch : goal.decreases-fill_branch
 decreases-fill_branch l = 2 * l.most + 1
