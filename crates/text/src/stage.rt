@@ -3,11 +3,7 @@ ghost use Rattle.std.specs.Prelude.{◌≡◌, IfOk};
 ghost use Rattle.text.specs.Written.{text_bytes};
 ghost use Rattle.text.specs.declared.stage.Failure.TheVariants.{Refused};
 
-<<<<<<< HEAD
-use super::{Model, load, write};
-=======
 use super::{Lent, Model, load, write};
->>>>>>> 6ef47ac118335628d9738c4b310666dcec2da155
 use body::Process;
 use checker::Refusal;
 use meaning::Message;
@@ -116,21 +112,6 @@ fn make_stage(heap: Global, bytes: usize) -> Result<Stage, AllocError> {
 // Reads a text into memory of its own.
 pub fn open(heap: Global, text: &[u8]) -> Result<Stage, Failure> {
     let mut stage = make_stage(heap, text.len())?;
-<<<<<<< HEAD
-    let extent = load(
-        text,
-        stage.code.as_mut_slice(),
-        stage.kinds.as_mut_slice(),
-        stage.names.as_mut_slice(),
-        stage.processes.as_mut_slice(),
-        stage.vars.as_mut_slice(),
-        stage.messages.as_mut_slice(),
-    )?;
-    stage.kinds.truncate(extent.kinds);
-    stage.processes.truncate(extent.things);
-    stage.messages.truncate(extent.notes);
-    Ok(stage)
-=======
     let mut lent = Lent {
         code: stage.code.as_mut_slice(),
         kinds: stage.kinds.as_mut_slice(),
@@ -139,14 +120,9 @@ pub fn open(heap: Global, text: &[u8]) -> Result<Stage, Failure> {
         vars: stage.vars.as_mut_slice(),
         messages: stage.messages.as_mut_slice(),
     };
-    match load(text, &mut lent) {
-        Ok(extent) => {
-            stage.kinds.truncate(extent.kinds);
-            stage.processes.truncate(extent.things);
-            stage.messages.truncate(extent.notes);
-            Ok(Opened::Ready(stage))
-        }
-        Err(refusal) => Ok(Opened::Refused(refusal)),
-    }
->>>>>>> 6ef47ac118335628d9738c4b310666dcec2da155
+    let extent = load(text, &mut lent)?;
+    stage.kinds.truncate(extent.kinds);
+    stage.processes.truncate(extent.things);
+    stage.messages.truncate(extent.notes);
+    Ok(stage)
 }
