@@ -1,6 +1,3 @@
-pub mod Places
-pub mod Words
 pub mod Refusals
-pub mod Blocks
-pub mod Texts
-pub mod Heads
+pub mod Printed
+pub mod Lines
