@@ -2,3 +2,5 @@ pub mod Terms
 pub mod Longs
 pub mod Heads
 pub mod Blocks
+pub mod Tables
+pub mod Rows

@@ -1,3 +1,4 @@
 pub mod Refusals
 pub mod Printed
 pub mod Lines
+pub mod Texts

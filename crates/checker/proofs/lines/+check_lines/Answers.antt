@@ -4,8 +4,8 @@ use Rattle.grammar.specs.Check.{Checked, Block, check_head, check_lines}
 use Rattle.checker.specs.declared.lines.Sort.TheVariants.{End, Else, Simple, Again, If}
 use Rattle.checker.specs.declared.limits.Refused.{Refused}
 use Rattle.checker.specs.Lines.{Shape, sort_of, shape_of, close_of}
-use Rattle.checker.specs.Refusals.{names_in, refused_by}
-use Rattle.checker.proofs.Longs.{line_taken, line_refused}
+use Rattle.checker.specs.Refusals.{names_in, read, refused_by}
+use Rattle.checker.proofs.Longs.{line_taken, line_refused, map_same}
 use Rattle.checker.proofs.Blocks.{Go, shaped, lines_deep, lines_left, lines_refused, lines_behind, again_bad, again_whole, if_bad, if_whole, if_second, if_both}
 use Rattle.checker.proofs.lines.+check_lines.Goals as goal
 
@@ -26,7 +26,7 @@ returns-in_err-sort t c =
     let s = c.args.scope in
     let p = err_from_is_err_and c.from_residual.result c.from_residual.ensures.1 in
     let e =
-    line_refused sort_of c.args.text.now (check_head (names_in s.names.now) s.deep s.or_else c.args.text.now) c.check_head.result c.in_err-sort.field-0.0 c.check_head.ensures c.in_err-sort.ensures
+    line_refused sort_of (λ x. x) c.args.text.now (check_head (names_in s.names.now) s.deep s.or_else c.args.text.now) c.check_head.result c.in_err-sort.field-0.0 (c.check_head.ensures ∙ sym (map_same (read c.check_head.result))) c.in_err-sort.ensures
     in
     rw (p.1, p.2) (lines_refused (names_in s.names.now) c.args.left s.deep s.or_else c.args.text.now c.args.most _ _ c.if-most-eq0.false c.if-left-eq0.false e)
 
@@ -35,7 +35,7 @@ returns-in-End t c =
     let s = c.args.scope in
     let names = names_in s.names.now in
     let bs = c.args.text.now in
-    let e = line_taken sort_of bs (check_head names s.deep s.or_else bs) c.check_head.result c.in_ok-sort.sort c.in_ok-sort.rest c.check_head.ensures c.in_ok-sort.ensures in
+    let e = line_taken sort_of (λ x. x) bs (check_head names s.deep s.or_else bs) c.check_head.result c.in_ok-sort.sort c.in_ok-sort.rest (c.check_head.ensures ∙ sym (map_same (read c.check_head.result))) c.in_ok-sort.ensures in
     let head = lines_behind names c.args.left s.deep s.or_else bs c.args.most c.in_ok-sort.sort End c.in_ok-sort.rest.now c.if-most-eq0.false c.if-left-eq0.false e c.in-End.is in
     head
 
@@ -44,7 +44,7 @@ returns-in-Else t c =
     let s = c.args.scope in
     let names = names_in s.names.now in
     let bs = c.args.text.now in
-    let e = line_taken sort_of bs (check_head names s.deep s.or_else bs) c.check_head.result c.in_ok-sort.sort c.in_ok-sort.rest c.check_head.ensures c.in_ok-sort.ensures in
+    let e = line_taken sort_of (λ x. x) bs (check_head names s.deep s.or_else bs) c.check_head.result c.in_ok-sort.sort c.in_ok-sort.rest (c.check_head.ensures ∙ sym (map_same (read c.check_head.result))) c.in_ok-sort.ensures in
     let head = lines_behind names c.args.left s.deep s.or_else bs c.args.most c.in_ok-sort.sort Else c.in_ok-sort.rest.now c.if-most-eq0.false c.if-left-eq0.false e c.in-Else.is in
     head
 
@@ -53,7 +53,7 @@ returns-in-Simple t c =
     let s = c.args.scope in
     let names = names_in s.names.now in
     let bs = c.args.text.now in
-    let e = line_taken sort_of bs (check_head names s.deep s.or_else bs) c.check_head.result c.in_ok-sort.sort c.in_ok-sort.rest c.check_head.ensures c.in_ok-sort.ensures in
+    let e = line_taken sort_of (λ x. x) bs (check_head names s.deep s.or_else bs) c.check_head.result c.in_ok-sort.sort c.in_ok-sort.rest (c.check_head.ensures ∙ sym (map_same (read c.check_head.result))) c.in_ok-sort.ensures in
     let head = lines_behind names c.args.left s.deep s.or_else bs c.args.most c.in_ok-sort.sort Simple c.in_ok-sort.rest.now c.if-most-eq0.false c.if-left-eq0.false e c.in-Simple.is in
     head ∙ c.check_lines.ensures
 
@@ -62,7 +62,7 @@ returns-in_err-inner-in-Again t c =
     let s = c.args.scope in
     let names = names_in s.names.now in
     let bs = c.args.text.now in
-    let e = line_taken sort_of bs (check_head names s.deep s.or_else bs) c.check_head.result c.in_ok-sort.sort c.in_ok-sort.rest c.check_head.ensures c.in_ok-sort.ensures in
+    let e = line_taken sort_of (λ x. x) bs (check_head names s.deep s.or_else bs) c.check_head.result c.in_ok-sort.sort c.in_ok-sort.rest (c.check_head.ensures ∙ sym (map_same (read c.check_head.result))) c.in_ok-sort.ensures in
     let head = lines_behind names c.args.left s.deep s.or_else bs c.args.most c.in_ok-sort.sort Again c.in_ok-sort.rest.now c.if-most-eq0.false c.if-left-eq0.false e c.in-Again.is in
     let go : Go = λ l d e q. shaped (check_lines names (c.args.most - 1) l d e q) in
     let i : c.saturating_sub.result ≡ s.deep - 1 = search rules in
@@ -74,7 +74,7 @@ returns-in_ok-inner-in-Again t c =
     let s = c.args.scope in
     let names = names_in s.names.now in
     let bs = c.args.text.now in
-    let e = line_taken sort_of bs (check_head names s.deep s.or_else bs) c.check_head.result c.in_ok-sort.sort c.in_ok-sort.rest c.check_head.ensures c.in_ok-sort.ensures in
+    let e = line_taken sort_of (λ x. x) bs (check_head names s.deep s.or_else bs) c.check_head.result c.in_ok-sort.sort c.in_ok-sort.rest (c.check_head.ensures ∙ sym (map_same (read c.check_head.result))) c.in_ok-sort.ensures in
     let head = lines_behind names c.args.left s.deep s.or_else bs c.args.most c.in_ok-sort.sort Again c.in_ok-sort.rest.now c.if-most-eq0.false c.if-left-eq0.false e c.in-Again.is in
     let go : Go = λ l d e q. shaped (check_lines names (c.args.most - 1) l d e q) in
     let i : c.saturating_sub.result ≡ s.deep - 1 = search rules in
@@ -87,7 +87,7 @@ returns-in_err-first-in-If t c =
     let s = c.args.scope in
     let names = names_in s.names.now in
     let bs = c.args.text.now in
-    let e = line_taken sort_of bs (check_head names s.deep s.or_else bs) c.check_head.result c.in_ok-sort.sort c.in_ok-sort.rest c.check_head.ensures c.in_ok-sort.ensures in
+    let e = line_taken sort_of (λ x. x) bs (check_head names s.deep s.or_else bs) c.check_head.result c.in_ok-sort.sort c.in_ok-sort.rest (c.check_head.ensures ∙ sym (map_same (read c.check_head.result))) c.in_ok-sort.ensures in
     let head = lines_behind names c.args.left s.deep s.or_else bs c.args.most c.in_ok-sort.sort If c.in_ok-sort.rest.now c.if-most-eq0.false c.if-left-eq0.false e c.in-If.is in
     let go : Go = λ l d e q. shaped (check_lines names (c.args.most - 1) l d e q) in
     let i : c.saturating_sub.result ≡ s.deep - 1 = search rules in
@@ -99,7 +99,7 @@ returns-in-End-by t c =
     let s = c.args.scope in
     let names = names_in s.names.now in
     let bs = c.args.text.now in
-    let e = line_taken sort_of bs (check_head names s.deep s.or_else bs) c.check_head.result c.in_ok-sort.sort c.in_ok-sort.rest c.check_head.ensures c.in_ok-sort.ensures in
+    let e = line_taken sort_of (λ x. x) bs (check_head names s.deep s.or_else bs) c.check_head.result c.in_ok-sort.sort c.in_ok-sort.rest (c.check_head.ensures ∙ sym (map_same (read c.check_head.result))) c.in_ok-sort.ensures in
     let head = lines_behind names c.args.left s.deep s.or_else bs c.args.most c.in_ok-sort.sort If c.in_ok-sort.rest.now c.if-most-eq0.false c.if-left-eq0.false e c.in-If.is in
     let go : Go = λ l d e q. shaped (check_lines names (c.args.most - 1) l d e q) in
     let i : c.saturating_sub.result ≡ s.deep - 1 = search rules in
@@ -113,7 +113,7 @@ returns-in_err-second-in-Else-by t c =
     let s = c.args.scope in
     let names = names_in s.names.now in
     let bs = c.args.text.now in
-    let e = line_taken sort_of bs (check_head names s.deep s.or_else bs) c.check_head.result c.in_ok-sort.sort c.in_ok-sort.rest c.check_head.ensures c.in_ok-sort.ensures in
+    let e = line_taken sort_of (λ x. x) bs (check_head names s.deep s.or_else bs) c.check_head.result c.in_ok-sort.sort c.in_ok-sort.rest (c.check_head.ensures ∙ sym (map_same (read c.check_head.result))) c.in_ok-sort.ensures in
     let head = lines_behind names c.args.left s.deep s.or_else bs c.args.most c.in_ok-sort.sort If c.in_ok-sort.rest.now c.if-most-eq0.false c.if-left-eq0.false e c.in-If.is in
     let go : Go = λ l d e q. shaped (check_lines names (c.args.most - 1) l d e q) in
     let i : c.saturating_sub.result ≡ s.deep - 1 = search rules in
@@ -129,7 +129,7 @@ returns-in_ok-second-in-Else-by t c =
     let s = c.args.scope in
     let names = names_in s.names.now in
     let bs = c.args.text.now in
-    let e = line_taken sort_of bs (check_head names s.deep s.or_else bs) c.check_head.result c.in_ok-sort.sort c.in_ok-sort.rest c.check_head.ensures c.in_ok-sort.ensures in
+    let e = line_taken sort_of (λ x. x) bs (check_head names s.deep s.or_else bs) c.check_head.result c.in_ok-sort.sort c.in_ok-sort.rest (c.check_head.ensures ∙ sym (map_same (read c.check_head.result))) c.in_ok-sort.ensures in
     let head = lines_behind names c.args.left s.deep s.or_else bs c.args.most c.in_ok-sort.sort If c.in_ok-sort.rest.now c.if-most-eq0.false c.if-left-eq0.false e c.in-If.is in
     let go : Go = λ l d e q. shaped (check_lines names (c.args.most - 1) l d e q) in
     let i : c.saturating_sub.result ≡ s.deep - 1 = search rules in

@@ -1,0 +1,36 @@
+use Rattle.std.proofs.Common.{rules, ◌≡◌, ◌≤◌, [], length, IfOk}
+use Rattle.std.proofs.Common.{None as Absent}
+use Rattle.std.proofs.Common.{ℕ, ◌+◌, ◌-◌, ◌*◌, ◌<◌, ◌/◌, ◌%◌, Bool, true, false, nat_eq, nat_lt, List, ◌∷◌, ◌++◌, slice_index_or, slice_set, bit_and, bit_or, Fits, w8, w32, w64, Bor, MutBor}
+use Rattle.grammar.specs.Check.{check_new, check_names, check_first, check_kind, most_names, check_row, check_thing, check_note, check_notes, check_things, check_kinds}
+use Rattle.grammar.specs.Check.{check as checked}
+use Rattle.grammar.specs.Check.{excess, most_notes, most_things, too_large, broken, sooner, large_at}
+use Rattle.grammar.specs.Parse.{read_name}
+use Rattle.grammar.specs.Syntax.{Text}
+use Rattle.words.specs.Words.{unpack}
+use Rattle.checker.specs.Refusals.{map_checked, left_out, refused_by, read, ended, outcome, names_in}
+use Rattle.checker.specs.Texts.{known_in, counted_by, names_from, first_from, seen, seen_read, row_length, length_of, rest_of, amounts, amounts_of, sizes, sizes_of, sized, Answered}
+use Rattle.checker.proofs.texts.check_row.Goals as goal
+
+-- src/texts.rt:175:13
+pub returns-in_default : goal.returns-in_default
+returns-in_default c = ?
+
+-- src/texts.rt:178:13
+pub returns-then-first-eq10 : goal.returns-then-first-eq10
+returns-then-first-eq10 c = ?
+
+-- src/texts.rt:181:13
+pub returns-then-first-ne32 : goal.returns-then-first-ne32
+returns-then-first-ne32 c = ?
+
+-- src/texts.rt:188:26
+pub returns-in-Err : goal.returns-in-Err
+returns-in-Err c = ?
+
+-- src/texts.rt:173:5
+pub loop-count-preserved : goal.loop-count-preserved
+loop-count-preserved c = ?
+
+-- src/texts.rt:168:1
+pub returns : goal.returns
+returns c = ?
