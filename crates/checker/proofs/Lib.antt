@@ -4,3 +4,5 @@ pub mod Heads
 pub mod Blocks
 pub mod Tables
 pub mod Rows
+pub mod Lengths
+pub mod Wholes

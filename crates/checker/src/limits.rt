@@ -1,9 +1,9 @@
 // What is refused, with the bytes from there on; numbers that are too large, and lines and texts that are too long.
-ghost use Rattle.std.specs.Prelude.{◌≡◌, ◌≤◌, length};
+ghost use Rattle.std.specs.Prelude.{◌≡◌, ◌-◌, ◌≤◌, length};
 ghost use Rattle.grammar.specs.Check.{check_target, too_long, overrun, in_line, too_large};
 ghost use Rattle.checker.specs.Refusals.{left_out, ended, refused_by, outcome};
 
-use super::Rule;
+use super::{Refusal, Rule};
 use words::{number_of, read_number};
 
 // A rule that is broken, and the bytes from there on.
@@ -33,6 +33,16 @@ impl Rule {
             rule: self,
             from: text,
         }
+    }
+}
+
+impl Refused<'_> {
+    // The refusal in the whole text, which ends as the bytes that are refused do.
+    pub fn within(self, text: &[u8]) -> Refusal
+        ensures { result ≡ record { rule = self.entry.rule; place = length text.now - length self.entry.from.now } }
+    {
+        let place = text.len().saturating_sub(self.from.len());
+        self.rule.refusal(place)
     }
 }
 

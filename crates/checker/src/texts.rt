@@ -1,8 +1,9 @@
 // Texts checked with all their rules: names, kinds, things and messages.
-ghost use Rattle.std.specs.Prelude.{◌≡◌, ◌≤◌, [], length, IfOk, None as Absent};
-ghost use Rattle.grammar.specs.Check.{check_new, check_names, check_first, check_kind, most_names, check_row, check_thing, check_note, check_notes, check_things, check_kinds, check as checked, excess, most_notes, most_things, too_large, broken, sooner, large_at};
+ghost use Rattle.std.specs.Prelude.{◌≡◌, ◌==◌, ◌≤◌, [], length, IfOk, None as Absent};
+ghost use Rattle.grammar.specs.Check.{check_new, check_names, check_first, check_kind, most_names, check_row, check_thing, check_note, check_notes, check_things, check_kinds, check as checked, most_notes, most_things, too_large, broken, sooner, large_at};
 ghost use Rattle.grammar.specs.Parse.{read_name};
 ghost use Rattle.grammar.specs.Syntax.{Text};
+ghost use Rattle.words.specs.Reads.{first_is};
 ghost use Rattle.words.specs.Words.{unpack};
 ghost use Rattle.checker.specs.Refusals.{map_checked, left_out, refused_by, read, ended, outcome, names_in};
 ghost use Rattle.checker.specs.Texts.{known_in, counted_by, names_from, first_from, seen, seen_read, row_length, length_of, rest_of, amounts, amounts_of, sizes, sizes_of, sized, Answered};
@@ -224,6 +225,13 @@ fn check_note(text: &[u8], things: usize) -> Result<&[u8], Refused<'_>>
     Ok(read_literal(rest, b"\n")?)
 }
 
+// Whether a text begins with a byte.
+fn begins_with(text: &[u8], byte: u8) -> bool
+    ensures { result ≡ first_is (λ b. b == byte) text.now }
+{
+    text.first().is_some_and(|first| *first == byte)
+}
+
 // Messages up to the end of the text, and how many.
 fn check_notes(text: &[u8], things: usize) -> Result<usize, Refused<'_>>
     requires { things ≤ too_large }
@@ -236,11 +244,13 @@ fn check_notes(text: &[u8], things: usize) -> Result<usize, Refused<'_>>
         }
         rest = check_note(rest, things)?;
     }
-    match rest.first() {
-        None => Ok(NOTES),
-        Some(b'm') => Err(Rule::Limit.at(rest)),
-        Some(_) => Err(Rule::Form.at(rest)),
+    if rest.is_empty() {
+        return Ok(NOTES);
     }
+    if begins_with(rest, b'm') {
+        return Err(Rule::Limit.at(rest));
+    }
+    Err(Rule::Form.at(rest))
 }
 
 // Things up to the messages, the messages up to the end of the text, and how many. One thing too many is refused, unless its line has more or
@@ -250,23 +260,22 @@ fn check_things<'a>(text: &'a [u8], kinds: &[Kept]) -> Result<Counts, Refused<'a
 {
     let mut rest = text;
     for things in 0..THINGS {
-        let Some(b't') = rest.first() else {
+        if !begins_with(rest, b't') {
             let notes = check_notes(rest, things)?;
             return Ok(Counts { things, notes });
-        };
+        }
         rest = check_thing(rest, kinds)?;
     }
-    if let Some(b't') = rest.first() {
+    if begins_with(rest, b't') {
         return Err(cut_off(rest, 0, check_thing(rest, kinds)));
     }
     let notes = check_notes(rest, THINGS)?;
-    Ok(Counts {
-        things: THINGS,
-        notes,
-    })
+    let things = THINGS;
+    Ok(Counts { things, notes })
 }
 
-// Kinds up to the things and messages, and these up to the end of the text. The table is an array, since there is no heap.
+// Kinds up to the things and messages, and these up to the end of the text. The table is an array, since there is no heap; it is filled by a
+// `while`, since the rest and the lines that are left run along.
 fn check_kinds(text: &[u8]) -> Result<Extent, Refused<'_>>
     ensures { map_checked (sizes 0 0) (check_kinds 4097 [] 4096 text.now) ≡ map_checked sizes_of (outcome result) }
 {
@@ -274,11 +283,11 @@ fn check_kinds(text: &[u8]) -> Result<Extent, Refused<'_>>
     let mut rest = text;
     let mut kinds = 0;
     let mut left = LINES;
-    // Each kind takes a line, so that there are never more than lines; the last turn is only for a proof that doesn't know it.
-    while let Some(b'k') = rest.first() {
+    while begins_with(rest, b'k') {
         let ((kind, behind), next) = check_kind(rest, &table[..kinds], left)?;
         rest = next;
         left = behind;
+        // Each kind takes a line, so that there are never more than lines.
         if kinds == LINES {
             return Err(Rule::Limit.at(rest));
         }
@@ -294,16 +303,20 @@ fn check_kinds(text: &[u8]) -> Result<Extent, Refused<'_>>
     })
 }
 
+// A whole text, which may have 64 MiB.
+fn check_whole(text: &[u8]) -> Result<Extent, Refused<'_>>
+    ensures { map_checked (sizes 0 0) (checked text.now) ≡ map_checked sizes_of (outcome result) }
+{
+    let whole = check_kinds(text);
+    if text.len() <= BYTES {
+        return whole;
+    }
+    Err(cut_off(text, BYTES, whole))
+}
+
 // Whether the bytes are a text that keeps all rules, and how large it is; else the first refusal.
 pub fn check(bytes: &[u8]) -> Result<Extent, Refusal>
     ensures { Answered bytes.now result (checked bytes.now) }
 {
-    let mut whole = check_kinds(bytes);
-    if bytes.len() > BYTES {
-        whole = Err(cut_off(bytes, BYTES, whole));
-    }
-    match whole {
-        Ok(extent) => Ok(extent),
-        Err(refused) => Err(refused.rule.refusal(bytes.len() - refused.from.len())),
-    }
+    check_whole(bytes).map_err(|refused| refused.within(bytes))
 }

@@ -1,36 +1,27 @@
-use Rattle.std.proofs.Common.{rules, ◌≡◌, ◌≤◌, [], length, IfOk}
-use Rattle.std.proofs.Common.{None as Absent}
-use Rattle.std.proofs.Common.{ℕ, ◌+◌, ◌-◌, ◌*◌, ◌<◌, ◌/◌, ◌%◌, Bool, true, false, nat_eq, nat_lt, List, ◌∷◌, ◌++◌, slice_index_or, slice_set, bit_and, bit_or, Fits, w8, w32, w64, Bor, MutBor}
-use Rattle.grammar.specs.Check.{check_new, check_names, check_first, check_kind, most_names, check_row, check_thing, check_note, check_notes, check_things, check_kinds}
-use Rattle.grammar.specs.Check.{check as checked}
-use Rattle.grammar.specs.Check.{excess, most_notes, most_things, too_large, broken, sooner, large_at}
-use Rattle.grammar.specs.Parse.{read_name}
-use Rattle.grammar.specs.Syntax.{Text}
-use Rattle.words.specs.Words.{unpack}
-use Rattle.checker.specs.Refusals.{map_checked, left_out, refused_by, read, ended, outcome, names_in}
-use Rattle.checker.specs.Texts.{known_in, counted_by, names_from, first_from, seen, seen_read, row_length, length_of, rest_of, amounts, amounts_of, sizes, sizes_of, sized, Answered}
+use Rattle.std.proofs.Common.{◌≡◌, ℕ, ◌+◌, ◌-◌, length, sym, refl, ap, ◌∙◌, eqb, arith}
+use Rattle.std.proofs.lemmas.Bool.{eqb-true, eqb-false}
+use Rattle.std.proofs.lemmas.Result.{err_from_is_err_and}
+use Rattle.grammar.specs.Check.{taken, check_notes, most_notes}
+use Rattle.checker.specs.Refusals.{map_checked, refused_by}
+use Rattle.checker.specs.Texts.{sized}
+use Rattle.checker.proofs.Wholes.{notes_end, notes_full, notes_other, notes_refused, notes_more}
 use Rattle.checker.proofs.texts.check_notes.Goals as goal
 
--- src/texts.rt:235:13
 pub returns-then-is_empty : goal.returns-then-is_empty
-returns-then-is_empty c = ?
+returns-then-is_empty c =
+    sym c.loop-count.invariant ∙ notes_end c.args.things (most_notes - c.loop-count.count) c.loop-count.count c.loop-count.rest.now (eqb-true (length c.loop-count.rest.now) 0 (sym c.if-is_empty.ensures))
 
--- src/texts.rt:237:16
 pub returns-in_err-rest : goal.returns-in_err-rest
-returns-in_err-rest c = ?
+returns-in_err-rest c =
+    let p = err_from_is_err_and c.from_residual.result c.from_residual.ensures.1 in
+    rw (p.1, p.2)
+    (sym c.loop-count.invariant
+    ∙ notes_refused c.args.things (most_notes - c.loop-count.count) c.loop-count.count c.loop-count.rest.now (λ z. omega (arith, z, c.loop-count-test.true)) (eqb-false (length c.loop-count.rest.now) 0 (sym c.if-is_empty.ensures)) _ _ c.in_err-rest.ensures)
 
--- src/texts.rt:233:5
 pub loop-count-preserved : goal.loop-count-preserved
-loop-count-preserved c = ?
-
--- src/texts.rt:228:1
-pub returns-in-None : goal.returns-in-None
-returns-in-None c = ?
-
--- src/texts.rt:228:1
-pub returns-in-Some-eq109 : goal.returns-in-Some-eq109
-returns-in-Some-eq109 c = ?
-
--- src/texts.rt:228:1
-pub returns-in-Some : goal.returns-in-Some
-returns-in-Some c = ?
+loop-count-preserved c =
+    let n = most_notes - c.loop-count.count in
+    let m : n - 1 ≡ most_notes - (c.loop-count.count + 1) = omega arith in
+    ap (λ n. map_checked (sized (c.loop-count.count + 1)) (check_notes c.args.things n c.in_ok-rest.rest.now)) (sym m)
+    ∙ sym (notes_more c.args.things n c.loop-count.count c.loop-count.rest.now (λ z. omega (arith, z, c.loop-count-test.true)) (eqb-false (length c.loop-count.rest.now) 0 (sym c.if-is_empty.ensures)) c.in_ok-rest.rest.now c.in_ok-rest.ensures)
+    ∙ c.loop-count.invariant

@@ -1,36 +1,50 @@
-use Rattle.std.proofs.Common.{rules, ◌≡◌, ◌≤◌, [], length, IfOk}
-use Rattle.std.proofs.Common.{None as Absent}
-use Rattle.std.proofs.Common.{ℕ, ◌+◌, ◌-◌, ◌*◌, ◌<◌, ◌/◌, ◌%◌, Bool, true, false, nat_eq, nat_lt, List, ◌∷◌, ◌++◌, slice_index_or, slice_set, bit_and, bit_or, Fits, w8, w32, w64, Bor, MutBor}
-use Rattle.grammar.specs.Check.{check_new, check_names, check_first, check_kind, most_names, check_row, check_thing, check_note, check_notes, check_things, check_kinds}
-use Rattle.grammar.specs.Check.{check as checked}
-use Rattle.grammar.specs.Check.{excess, most_notes, most_things, too_large, broken, sooner, large_at}
-use Rattle.grammar.specs.Parse.{read_name}
-use Rattle.grammar.specs.Syntax.{Text}
-use Rattle.words.specs.Words.{unpack}
-use Rattle.checker.specs.Refusals.{map_checked, left_out, refused_by, read, ended, outcome, names_in}
-use Rattle.checker.specs.Texts.{known_in, counted_by, names_from, first_from, seen, seen_read, row_length, length_of, rest_of, amounts, amounts_of, sizes, sizes_of, sized, Answered}
+use Rattle.std.proofs.Common.{◌≡◌, ◌+◌, ◌-◌, sym, ap, ◌∙◌, arith}
+use Rattle.grammar.specs.Check.{broken, check_row}
+use Rattle.checker.specs.Refusals.{map_checked, number_of, refused_by}
+use Rattle.checker.specs.Texts.{Length, row_length, rest_of}
+use Rattle.checker.proofs.Rows.{broken_same, row_zero, row_none, row_end, row_other, row_bad, row_more}
 use Rattle.checker.proofs.texts.check_row.Goals as goal
 
--- src/texts.rt:175:13
 pub returns-in_default : goal.returns-in_default
-returns-in_default c = ?
+returns-in_default c =
+    sym c.loop-count.invariant
+    ∙ row_none (c.args.most - c.loop-count.count) c.loop-count.count (rest_of c.loop-count.large) (λ z. omega (arith, z, c.loop-count-test.true)) c.loop-count.rest.now c.in_default.ensures.cases
+    ∙ broken_same (rest_of c.loop-count.large) c.loop-count.rest.now (number_of c.broken.result.rule) c.broken.result.from.now c.broken.ensures
 
--- src/texts.rt:178:13
 pub returns-then-first-eq10 : goal.returns-then-first-eq10
-returns-then-first-eq10 c = ?
+returns-then-first-eq10 c =
+    let n = c.args.most - c.loop-count.count in
+    sym c.loop-count.invariant ∙ ap (λ r. map_checked (row_length c.loop-count.count) (check_row n (rest_of c.loop-count.large) r)) c.in-Some.ensures.cases.0
+    ∙ row_end n c.loop-count.count (rest_of c.loop-count.large) (λ z. omega (arith, z, c.loop-count-test.true)) c.in-Some.first.now c.in-Some.behind.now c.if-first-eq10.true
 
--- src/texts.rt:181:13
 pub returns-then-first-ne32 : goal.returns-then-first-ne32
-returns-then-first-ne32 c = ?
+returns-then-first-ne32 c =
+    let n = c.args.most - c.loop-count.count in
+    let f = c.broken-then-first-ne32 in
+    sym c.loop-count.invariant ∙ ap (λ r. map_checked (row_length c.loop-count.count) (check_row n (rest_of c.loop-count.large) r)) c.in-Some.ensures.cases.0
+    ∙ row_other n c.loop-count.count (rest_of c.loop-count.large) (λ z. omega (arith, z, c.loop-count-test.true)) c.in-Some.first.now c.in-Some.behind.now c.if-first-eq10.false c.if-first-ne32.true
+    ∙ ap (λ r. broken {A = Length} (rest_of c.loop-count.large) r) (sym c.in-Some.ensures.cases.0)
+    ∙ broken_same (rest_of c.loop-count.large) c.loop-count.rest.now (number_of f.result.rule) f.result.from.now f.ensures
 
--- src/texts.rt:188:26
 pub returns-in-Err : goal.returns-in-Err
-returns-in-Err c = ?
+returns-in-Err c =
+    let n = c.args.most - c.loop-count.count in
+    let f = c.broken-in-Err in
+    sym c.loop-count.invariant ∙ ap (λ r. map_checked (row_length c.loop-count.count) (check_row n (rest_of c.loop-count.large) r)) c.in-Some.ensures.cases.0
+    ∙ row_bad n c.loop-count.count (rest_of c.loop-count.large) (λ z. omega (arith, z, c.loop-count-test.true)) c.in-Some.first.now c.in-Some.behind.now c.if-first-ne32.false c.in-Err.next.now c.in-Err.ensures
+    ∙ broken_same (rest_of c.loop-count.large) c.in-Err.next.now (number_of f.result.rule) f.result.from.now f.ensures
 
--- src/texts.rt:173:5
 pub loop-count-preserved : goal.loop-count-preserved
-loop-count-preserved c = ?
+loop-count-preserved c =
+    let n = c.args.most - c.loop-count.count in
+    let m : n - 1 ≡ c.args.most - (c.loop-count.count + 1) = omega arith in
+    ap (λ n. map_checked (row_length (c.loop-count.count + 1)) (check_row n (rest_of c.first_large-large.result) c.in-Ok.next.now)) (sym m)
+    ∙ sym (row_more n c.loop-count.count (rest_of c.loop-count.large) (λ z. omega (arith, z, c.loop-count-test.true)) c.in-Some.first.now c.in-Some.behind.now c.if-first-ne32.false c.in-Ok.digits.now c.in-Ok.next.now
+    (rest_of c.first_large-large.result) c.in-Ok.ensures c.first_large-large.ensures)
+    ∙ ap (λ r. map_checked (row_length c.loop-count.count) (check_row n (rest_of c.loop-count.large) r)) (sym c.in-Some.ensures.cases.0) ∙ c.loop-count.invariant
 
--- src/texts.rt:168:1
 pub returns : goal.returns
-returns c = ?
+returns c =
+    sym c.loop-count.invariant
+    ∙ row_zero (c.args.most - c.loop-count.count) c.loop-count.count (rest_of c.loop-count.large) c.loop-count.rest.now (omega (arith, c.loop-count-test.false))
+    ∙ ap (λ f. refused_by {A = Length} f) (sym c.at.ensures)
