@@ -65,6 +65,21 @@ module _ (things n k : ℕ) (bs : List ℕ) (z : n ≡ 0 → ⊥) (s : length bs
       one x (taken xs d) = ap (λ m. taken m d) (let q : k + suc (length xs) ≡ k + 1 + length xs = omega arith in q)
       one x (refused m d) = refl
 
+-- One too many is refused in what was read as in what the code answered.
+pub cut_same : {A B : Type 0} (bs : List ℕ) (g : Checked A) (R : Result B Refused) (x : Refused) → left_out g ≡ left_out (outcome R) → refused_by x ≡ overrun 0 bs (outcome R) → left_out (overrun 0 bs g) ≡ refused_by x
+cut_same {A} {B} bs (taken a c) (Ok y) x e h = let p : ◌≡◌ {A = ℕ} 4 (number_of x.rule) = cc in let q : bs ≡ x.from.now = cc in ap₂ refused p q
+cut_same {A} {B} bs (taken a c) (Err y) x e h = absurd (let z : ◌≡◌ {A = ℕ} 0 1 = cc in omega arith)
+cut_same {A} {B} bs (refused n c) (Ok y) x e h = absurd (let z : ◌≡◌ {A = ℕ} 0 1 = cc in omega arith)
+cut_same {A} {B} bs (refused n c) (Err y) x e h =
+    let p : n ≡ number_of y.rule = cc in
+    let q : c ≡ y.from.now = cc in
+    ap₂ (λ m d. left_out (cond {A = Checked A} (leb (length bs - length d) 0) (refused m d) (refused 4 bs))) p q ∙ last (leb (length bs - length y.from.now) 0) h
+  where
+    last : (u : Bool) → refused_by x ≡ cond {A = Checked B} u (refused (number_of y.rule) y.from.now) (refused 4 bs) →
+        left_out (cond {A = Checked A} u (refused (number_of y.rule) y.from.now) (refused 4 bs)) ≡ refused_by x
+    last true h = let p : number_of y.rule ≡ number_of x.rule = cc in let q : y.from.now ≡ x.from.now = cc in ap₂ refused p q
+    last false h = let p : ◌≡◌ {A = ℕ} 4 (number_of x.rule) = cc in let q : bs ≡ x.from.now = cc in ap₂ refused p q
+
 -- A text of messages alone.
 abbrev only_notes : Checked (List Note) → Checked Text
 only_notes g = then g (λ ns c. taken (record { kinds = []; things = []; notes = ns }) c)
@@ -328,7 +343,27 @@ drop_front : (front c : List ℕ) → drop (length front) (front ++ c) ≡ c
 drop_front [] c = refl
 drop_front (b ∷ front) c = drop_front front c
 
--- What a whole text is answered, by its sizes.
-pub answered : (bs : List ℕ) (R : Result Extent Refused) (r : Result Extent Refusal) → map_checked (sizes 0 0) (check bs) ≡ map_checked sizes_of (outcome R) →
-    Answered bs r (check bs)
-answered bs R r e = ?
+-- What a whole text is answered, by its sizes: a refusal has its place in the text.
+abbrev pub placed : List ℕ → Result Extent Refused → Result Extent Refusal
+placed bs (Ok x) = Ok x
+placed bs (Err y) = Err (record { rule = y.rule; place = length bs - length y.from.now })
+
+pub answered : (bs : List ℕ) (R : Result Extent Refused) → map_checked (sizes 0 0) (check bs) ≡ map_checked sizes_of (outcome R) → Answered bs (placed bs R) (check bs)
+answered bs R e = go (check bs) refl R e
+  where
+    go : (g : Checked Text) → check bs ≡ g → (R : Result Extent Refused) → map_checked (sizes 0 0) g ≡ map_checked sizes_of (outcome R) → Answered bs (placed bs R) g
+    go (taken t c) h (Ok x) e =
+        let p : ◌≡◌ {A = Sizes} (record { lines = 0 + length (show_kinds t.kinds); kinds = 0 + length t.kinds; things = length t.things; notes = length t.notes }) (record { lines = x.lines; kinds = x.kinds; things = x.things; notes = x.notes }) = cc in
+        let a = ap (λ (s : Sizes). s.lines) p in
+        let b = ap (λ (s : Sizes). s.kinds) p in
+        record { lines = omega arith; kinds = omega arith; things = sym (ap (λ (s : Sizes). s.things) p); notes = sym (ap (λ (s : Sizes). s.notes) p) }
+    go (taken t c) h (Err y) e = let z : ◌≡◌ {A = ℕ} 0 1 = cc in absurd (omega arith)
+    go (refused n c) h (Ok x) e = let z : ◌≡◌ {A = ℕ} 0 1 = cc in absurd (omega arith)
+    go (refused n c) h (Err y) e =
+        let p : n ≡ number_of y.rule = cc in
+        let q : c ≡ y.from.now = cc in
+        let f = suffix bs c n h in
+        let l : length bs ≡ length f.0 + length c = ap length f.1 ∙ length-append f.0 c in
+        let m : length f.0 ≡ length bs - length c = omega arith in
+        let d : c ≡ drop (length bs - length c) bs = sym (drop_front f.0 c) ∙ ap₂ drop m (sym f.1) in
+        record { rule = sym p; rest = d ∙ ap (λ x. drop (length bs - length x) bs) q; inside = omega arith }

@@ -1,4 +1,4 @@
-use Rattle.std.proofs.Common.{◌≡◌, ℕ, ◌+◌, ◌-◌, length, sym, refl, ap, ◌∙◌, eqb, arith}
+use Rattle.std.proofs.Common.{◌≡◌, ℕ, ◌+◌, ◌-◌, [], length, sym, refl, ap, ◌∙◌, eqb, arith}
 use Rattle.std.proofs.lemmas.Bool.{eqb-true, eqb-false}
 use Rattle.std.proofs.lemmas.Result.{err_from_is_err_and}
 use Rattle.grammar.specs.Check.{taken, check_notes, most_notes}
@@ -25,3 +25,23 @@ loop-count-preserved c =
     ap (λ n. map_checked (sized (c.loop-count.count + 1)) (check_notes c.args.things n c.in_ok-rest.rest.now)) (sym m)
     ∙ sym (notes_more c.args.things n c.loop-count.count c.loop-count.rest.now (λ z. omega (arith, z, c.loop-count-test.true)) (eqb-false (length c.loop-count.rest.now) 0 (sym c.if-is_empty.ensures)) c.in_ok-rest.rest.now c.in_ok-rest.ensures)
     ∙ c.loop-count.invariant
+
+pub returns-then-is_empty-2 : goal.returns-then-is_empty-2
+returns-then-is_empty-2 c =
+    let k : c.loop-count.count ≡ 65536 = omega (arith, c.loop-count-test.false, c.loop-count.auto.count-end) in
+    sym c.loop-count.invariant
+    ∙ notes_end c.args.things (most_notes - c.loop-count.count) c.loop-count.count c.loop-count.rest.now (eqb-true (length c.loop-count.rest.now) 0 (sym c.if-is_empty-2.ensures))
+    ∙ ap (λ m. taken m []) k
+
+pub returns-then-begins_with : goal.returns-then-begins_with
+returns-then-begins_with c =
+    sym c.loop-count.invariant
+    ∙ notes_full c.args.things (most_notes - c.loop-count.count) c.loop-count.count c.loop-count.rest.now (omega (arith, c.loop-count-test.false)) c.if-begins_with.ensures
+    ∙ ap (λ f. refused_by {A = ℕ} f) (sym c.at.ensures)
+
+pub returns : goal.returns
+returns c =
+    sym c.loop-count.invariant
+    ∙ notes_other c.args.things (most_notes - c.loop-count.count) c.loop-count.count c.loop-count.rest.now (omega (arith, c.loop-count-test.false))
+    (eqb-false (length c.loop-count.rest.now) 0 (sym c.if-is_empty-2.ensures)) c.if-begins_with.ensures
+    ∙ ap (λ f. refused_by {A = ℕ} f) (sym c.at-2.ensures)
