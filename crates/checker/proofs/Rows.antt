@@ -3,7 +3,7 @@ use Rattle.std.proofs.Common.{◌≡◌, ℕ, zero, suc, ◌+◌, ◌-◌, true,
 use Rattle.std.proofs.lemmas.Bool.{eq-eqb, ne_eqb, cond-true, cond-false}
 use Rattle.grammar.specs.Parse.{Got, got, bad, expect, read_number, read_name}
 use Rattle.grammar.specs.Syntax.{among, Thing}
-use Rattle.grammar.specs.Check.{Checked, taken, refused, then, formed, check_literal, Known, count_of, check_count, check_thing, Row, broken, sooner, large_at, check_one, check_row}
+use Rattle.grammar.specs.Check.{Checked, taken, refused, then, formed, Known, count_of, check_count, check_thing, Row, broken, sooner, large_at, check_one, check_row}
 use Rattle.checker.specs.Refusals.{left_out, map_checked}
 use Rattle.checker.specs.Texts.{Length, row_length}
 use Rattle.checker.proofs.Tables.{names_of}

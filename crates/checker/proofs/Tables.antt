@@ -2,17 +2,17 @@
 use Rattle.std.proofs.Common.{◌≡◌, ℕ, zero, suc, ◌+◌, ◌-◌, ◌<◌, ◌≤◌, Bool, true, false, cond, ◌||◌, eqb, ◌⊎◌, List, [], ◌∷◌, ◌++◌, map, length, get_or, drop, Some, None, Option, codes, sym, refl, ap, ◌∙◌, ap₂, inl, inr, append_assoc, append-nil, arith}
 use Rattle.std.specs.Option.{is_some}
 use Rattle.std.proofs.lemmas.List.{drop_more, drop_all}
-use Rattle.std.proofs.lemmas.Bool.{eq-eqb, ne_eqb, cases_eq, cases_Bool, and_parts, cond-true, cond-false}
-use Rattle.grammar.specs.Syntax.{same, among, newline, is_word, is_name}
+use Rattle.std.proofs.lemmas.Bool.{eq-eqb, ne_eqb, cases_eq, cond-true, cond-false}
+use Rattle.grammar.specs.Syntax.{same, among, newline, is_name}
 use Rattle.grammar.specs.Parse.{Got, got, bad, Close, expect, checked, read_word, read_name}
-use Rattle.grammar.specs.Check.{Checked, taken, refused, then, formed, check_literal, check_new, check_names, Known, known, count_of, First, check_first, most_names, most_deep, in_line, Block, check_lines, Counted, check_kind}
+use Rattle.grammar.specs.Check.{Checked, taken, refused, then, formed, check_new, check_names, Known, count_of, First, check_first, most_names, most_deep, in_line, Block, check_lines, Counted, check_kind}
 use Rattle.words.specs.Reads.{map_got}
 use Rattle.words.specs.Words.{pack, unpack}
 use Rattle.words.proofs.Packs.{packed_again, unpacked, word_good}
 use Rattle.checker.specs.declared.texts.Kept.{Kept}
 use Rattle.checker.specs.Lines.{Shape}
 use Rattle.checker.specs.Refusals.{map_checked}
-use Rattle.checker.specs.Texts.{Seen, seen, known_in, counted_by}
+use Rattle.checker.specs.Texts.{seen, known_in, counted_by}
 use Rattle.checker.proofs.Terms.{same_unpacked}
 use Rattle.checker.proofs.Blocks.{shaped}
 

@@ -1,7 +1,7 @@
 -- Names in a table, words that stand for numbers, and expressions.
-use Rattle.std.proofs.Common.{◌≡◌, ℕ, zero, suc, ◌+◌, ◌-◌, ◌<◌, ◌≤◌, Bool, true, false, cond, ◌||◌, not, eqb, ◌⊎◌, List, [], ◌∷◌, length, get_or, codes, sym, refl, ap, ◌∙◌, ap₂, inl, inr, arith}
+use Rattle.std.proofs.Common.{◌≡◌, ℕ, zero, suc, ◌-◌, ◌<◌, Bool, true, false, cond, ◌||◌, eqb, ◌⊎◌, List, [], ◌∷◌, get_or, codes, sym, refl, ap, ◌∙◌, ap₂, inl, inr, arith}
 use Rattle.std.specs.List.{list_any}
-use Rattle.std.proofs.lemmas.Bool.{eq-eqb, ne_eqb, eqb-true, cond-true, cond-false, or_parts, and_parts, not-true, cases_eq, cases_Bool}
+use Rattle.std.proofs.lemmas.Bool.{eq-eqb, ne_eqb, cond-true, cond-false, or_parts, and_parts, not-true, cases_eq, cases_Bool}
 use Rattle.grammar.specs.Syntax.{Term, is_letter, is_operand, is_word, is_name, same, among, reserved}
 use Rattle.grammar.specs.Parse.{Got, got, bad, expect, read_word, read_number, checked}
 use Rattle.grammar.specs.Check.{Checked, taken, refused, then, formed, stand_ins, check_operand, check_number, check_plain, check_two, check_term}

@@ -1,6 +1,9 @@
 -- Messages, things and kinds with all their rules, one after the other, up to the end of the bytes.
-use Rattle.std.proofs.Common.{◌≡◌, ℕ, zero, suc, ◌+◌, ◌-◌, ◌<◌, ◌≤◌, Bool, true, false, cond, eqb, ltb, leb, ◌⊎◌, inl, inr, List, [], ◌∷◌, ◌++◌, length, drop, Ok, Err, Result, sym, refl, ap, ◌∙◌, subst, ap₂, length-append, arith}
-use Rattle.std.proofs.lemmas.Bool.{eq-eqb, ne_eqb, lt-ltb, le-ltb, cases_eq, cond-true, cond-false}
+use Rattle.std.proofs.Common.{◌≡◌, ℕ, zero, suc, ◌+◌, ◌-◌, ◌<◌, ◌≤◌, Bool, true, false, cond, eqb, ltb, leb, ◌⊎◌, inl, inr, List, [], ◌∷◌, ◌++◌, length, drop, Ok, Err, Result, sym, refl, ap, ◌∙◌, ap₂, length-append, arith}
+use Rattle.std.specs.Borrow.{Bor}
+use Rattle.std.specs.Result.{MatchResult, IsErrAnd}
+use Rattle.std.proofs.lemmas.Result.{err_from_is_err_and}
+use Rattle.std.proofs.lemmas.Bool.{lt-ltb, le-ltb, cases_eq, cond-true, cond-false}
 use Rattle.grammar.specs.Syntax.{Kind, Thing, Note, Text, show_kinds}
 use Rattle.grammar.specs.Check.{Checked, taken, refused, then, Known, check_thing, check_note, check_notes, check_things, most_notes, most_things, known, Counted, check_kind, check_kinds, check, overrun, excess, text_bytes}
 use Rattle.grammar.proofs.Taken.{refused_form}
@@ -9,7 +12,7 @@ use Rattle.words.specs.Reads.{first_is}
 use Rattle.checker.specs.declared.Refusal.{Refusal}
 use Rattle.checker.specs.declared.limits.Refused.{Refused}
 use Rattle.checker.specs.declared.texts.Extent.{Extent}
-use Rattle.checker.specs.Refusals.{left_out, map_checked, number_of, refused_by, outcome}
+use Rattle.checker.specs.Refusals.{left_out, map_checked, number_of, refused_by, ended, outcome}
 use Rattle.checker.specs.Texts.{Amounts, amounts, Seen, seen, Sizes, sizes, sizes_of, sized, Answered}
 use Rattle.checker.proofs.Lengths.{kind_size}
 use Rattle.checker.proofs.Longs.{refused_of}
@@ -66,16 +69,16 @@ module _ (things n k : ℕ) (bs : List ℕ) (z : n ≡ 0 → ⊥) (s : length bs
       one x (refused m d) = refl
 
 -- One too many is refused in what was read as in what the code answered.
-pub cut_same : {A B : Type 0} (bs : List ℕ) (g : Checked A) (R : Result B Refused) (x : Refused) → left_out g ≡ left_out (outcome R) → refused_by x ≡ overrun 0 bs (outcome R) → left_out (overrun 0 bs g) ≡ refused_by x
-cut_same {A} {B} bs (taken a c) (Ok y) x e h = let p : ◌≡◌ {A = ℕ} 4 (number_of x.rule) = cc in let q : bs ≡ x.from.now = cc in ap₂ refused p q
-cut_same {A} {B} bs (taken a c) (Err y) x e h = absurd (let z : ◌≡◌ {A = ℕ} 0 1 = cc in omega arith)
-cut_same {A} {B} bs (refused n c) (Ok y) x e h = absurd (let z : ◌≡◌ {A = ℕ} 0 1 = cc in omega arith)
-cut_same {A} {B} bs (refused n c) (Err y) x e h =
+pub cut_same : {A : Type 0} (bs : List ℕ) (g : Checked A) (R : Result (Bor (List ℕ)) Refused) (x : Refused) → left_out g ≡ ended R → refused_by x ≡ overrun 0 bs (outcome R) → left_out (overrun 0 bs g) ≡ refused_by x
+cut_same {A} bs (taken a c) (Ok y) x e h = let p : ◌≡◌ {A = ℕ} 4 (number_of x.rule) = cc in let q : bs ≡ x.from.now = cc in ap₂ refused p q
+cut_same {A} bs (taken a c) (Err y) x e h = absurd (let z : ◌≡◌ {A = ℕ} 0 1 = cc in omega arith)
+cut_same {A} bs (refused n c) (Ok y) x e h = absurd (let z : ◌≡◌ {A = ℕ} 0 1 = cc in omega arith)
+cut_same {A} bs (refused n c) (Err y) x e h =
     let p : n ≡ number_of y.rule = cc in
     let q : c ≡ y.from.now = cc in
     ap₂ (λ m d. left_out (cond {A = Checked A} (leb (length bs - length d) 0) (refused m d) (refused 4 bs))) p q ∙ last (leb (length bs - length y.from.now) 0) h
   where
-    last : (u : Bool) → refused_by x ≡ cond {A = Checked B} u (refused (number_of y.rule) y.from.now) (refused 4 bs) →
+    last : (u : Bool) → refused_by x ≡ cond {A = Checked (Bor (List ℕ))} u (refused (number_of y.rule) y.from.now) (refused 4 bs) →
         left_out (cond {A = Checked A} u (refused (number_of y.rule) y.from.now) (refused 4 bs)) ≡ refused_by x
     last true h = let p : number_of y.rule ≡ number_of x.rule = cc in let q : y.from.now ≡ x.from.now = cc in ap₂ refused p q
     last false h = let p : ◌≡◌ {A = ℕ} 4 (number_of x.rule) = cc in let q : bs ≡ x.from.now = cc in ap₂ refused p q
@@ -367,3 +370,9 @@ answered bs R e = go (check bs) refl R e
         let m : length f.0 ≡ length bs - length c = omega arith in
         let d : c ≡ drop (length bs - length c) bs = sym (drop_front f.0 c) ∙ ap₂ drop m (sym f.1) in
         record { rule = sym p; rest = d ∙ ap (λ x. drop (length bs - length x) bs) q; inside = omega arith }
+
+-- What `map_err` answers.
+pub placed_by : (P : Refused → Refusal → Type 0) (bs : List ℕ) (R : Result Extent Refused) (r : Result Extent Refusal) → MatchResult R (λ x. r ≡ Ok x) (λ y. IsErrAnd r (P y)) →
+    ((y : Refused) (f : Refusal) → P y f → f ≡ record { rule = y.rule; place = length bs - length y.from.now }) → placed bs R ≡ r
+placed_by P bs (Ok x) r h k = sym h
+placed_by P bs (Err y) r h k = let p = err_from_is_err_and r h in sym (p.1 ∙ ap (λ f. Err f) (k y p.0 p.2))

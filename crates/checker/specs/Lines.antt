@@ -3,11 +3,9 @@ use Rattle.std.specs.Prelude.{ℕ}
 use Rattle.grammar.specs.Parse.{Close, by_end, by_else}
 use Rattle.grammar.specs.Check.{Block, Head, ends, elses, assigns, draws, says, sends, whens, agains}
 use Rattle.words.specs.declared.Word.{Word}
-use Rattle.words.specs.declared.Word.TheVariants as Word
 use Rattle.checker.specs.declared.lines.Sort.{Sort}
 use Rattle.checker.specs.declared.lines.Sort.TheVariants.{End, Else, Simple, Again, If}
 use Rattle.checker.specs.declared.lines.Closing.{Closing}
-use Rattle.checker.specs.declared.lines.Closing.TheVariants as Closing
 use Rattle.checker.specs.declared.lines.Ended.{Ended}
 
 -- What sort of line it is.

@@ -6,12 +6,11 @@ use Rattle.grammar.specs.Check.{Checked, taken, refused, Known, known}
 use Rattle.grammar.specs.Check as check
 use Rattle.words.specs.Words.{unpack}
 use Rattle.checker.specs.declared.Refusal.{Refusal}
-use Rattle.checker.specs.declared.limits.Refused.{Refused as Broken}
 use Rattle.checker.specs.declared.texts.Kept.{Kept}
 use Rattle.checker.specs.declared.texts.Row.{Row}
 use Rattle.checker.specs.declared.texts.Counts.{Counts}
 use Rattle.checker.specs.declared.texts.Extent.{Extent}
-use Rattle.checker.specs.Refusals.{map_checked, number_of, refused_by, names_in}
+use Rattle.checker.specs.Refusals.{number_of, names_in}
 
 -- A kind that was read, and a table of them.
 abbrev pub known_by : Kept → Known

@@ -1,4 +1,4 @@
-use Rattle.std.proofs.Common.{sym, arith}
+use Rattle.std.proofs.Common.{arith}
 use Rattle.std.proofs.lemmas.List.{length-take}
 use Rattle.checker.proofs.Longs.{long_line}
 use Rattle.checker.proofs.limits.is_too_long.Goals as goal

@@ -1,6 +1,6 @@
-use Rattle.std.proofs.Common.{◌≡◌, ◌-◌, sym, refl, ap, ◌∙◌, rules}
+use Rattle.std.proofs.Common.{◌≡◌, ◌-◌, sym, ap, ◌∙◌, rules}
 use Rattle.std.proofs.lemmas.Result.{err_from_is_err_and}
-use Rattle.grammar.specs.Check.{Checked, Block, check_head, check_lines}
+use Rattle.grammar.specs.Check.{check_head, check_lines}
 use Rattle.checker.specs.declared.lines.Sort.TheVariants.{End, Else, Simple, Again, If}
 use Rattle.checker.specs.declared.limits.Refused.{Refused}
 use Rattle.checker.specs.Lines.{Shape, sort_of, shape_of, close_of}

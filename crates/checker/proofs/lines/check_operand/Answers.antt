@@ -1,4 +1,4 @@
-use Rattle.std.proofs.Common.{true, false, sym, refl, ap, ◌∙◌, ℕ, arith}
+use Rattle.std.proofs.Common.{true, false, sym, refl, ap, ◌∙◌, arith}
 use Rattle.checker.specs.Refusals.{names_in, refused_by}
 use Rattle.checker.proofs.Terms.{operand_own, operand_name, operand_none}
 use Rattle.checker.proofs.lines.check_operand.Goals as goal

@@ -1,9 +1,9 @@
-use Rattle.std.proofs.Common.{◌≡◌, None, Some, ap, sym, ◌∙◌}
+use Rattle.std.proofs.Common.{ap, sym, ◌∙◌}
 use Rattle.std.proofs.lemmas.Result.{err_from_is_err_and}
 use Rattle.grammar.specs.Check.{First}
 use Rattle.words.specs.Words.{unpack}
-use Rattle.checker.specs.Refusals.{names_in, refused_by}
-use Rattle.checker.specs.Texts.{known_in, counted_by, names_from}
+use Rattle.checker.specs.Refusals.{refused_by}
+use Rattle.checker.specs.Texts.{known_in, names_from}
 use Rattle.checker.proofs.Tables.{name_back, absent, present, is_there, is_absent, first_known, first_refused, first_whole}
 use Rattle.checker.proofs.texts.check_first.Goals as goal
 

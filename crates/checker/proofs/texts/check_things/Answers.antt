@@ -1,7 +1,7 @@
 use Rattle.std.proofs.Common.{◌≡◌, ◌+◌, ◌-◌, [], sym, ap, ◌∙◌, arith}
 use Rattle.std.proofs.lemmas.Result.{err_from_is_err_and}
 use Rattle.grammar.specs.Check.{taken, check_thing, check_notes, check_things, most_notes, most_things}
-use Rattle.checker.specs.Refusals.{map_checked, left_out, refused_by, ended, outcome}
+use Rattle.checker.specs.Refusals.{map_checked}
 use Rattle.checker.specs.Texts.{Amounts, amounts, sized, known_in}
 use Rattle.checker.proofs.Wholes.{things_notes, things_notes_refused, things_full, things_refused, things_more, cut_same}
 use Rattle.checker.proofs.texts.check_things.Goals as goal
