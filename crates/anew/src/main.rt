@@ -2,7 +2,6 @@
 #![tactic(auto)]
 
 use anyhow::anyhow;
-use checker::{Refusal, rule_number};
 use std::alloc::Global;
 use std::io::Write;
 use std::{env, fs, io};
@@ -22,12 +21,6 @@ fn read_path(rt: &HostRuntime) -> io::Result<Option<String>> {
     Ok(path)
 }
 
-fn refuse(rt: &HostRuntime, refusal: Refusal) -> io::Result<()> {
-    let number = rule_number(refusal.rule);
-    let place = refusal.place;
-    println!(rt; "refused {number} at {place}")
-}
-
 // The text written anew, which is at most as long as it was.
 fn written(heap: Global, text: &[u8]) -> Result<Vec<u8>, Failure> {
     open(heap, text)?.to_text(heap, text.len())
@@ -41,7 +34,7 @@ fn run(rt: &HostRuntime, heap: Global) -> anyhow::Result<()> {
     let bytes = fs::read(rt, path.as_str())?;
     match written(heap, bytes.as_slice()) {
         Ok(text) => rt.stdout().write_all(text.as_slice())?,
-        Err(Failure::Refused(refusal)) => refuse(rt, refusal)?,
+        Err(Failure::Refused(refusal)) => println!(rt; "{refusal}")?,
         Err(Failure::Io(error)) => return Err(error.into()),
     }
     Ok(())

@@ -2,7 +2,7 @@
 #![tactic(auto)]
 
 use anyhow::anyhow;
-use checker::{Refusal, number_of, rule_number};
+use words::number_of;
 use sequential::Outcome;
 use std::alloc::Global;
 use std::io::{BufWriter, Write};
@@ -28,18 +28,10 @@ struct Command {
 // A number as it was written; one of 2^32 or more is out of every range.
 fn number(argument: &str) -> Option<u64> {
     let digits = argument.as_bytes();
-    if digits.is_empty() {
+    if digits.is_empty() || !digits.iter().all(|d| d.is_ascii_digit()) {
         return None;
     }
-    for d in digits {
-        if *d < b'0' || *d > b'9' {
-            return None;
-        }
-    }
-    match number_of(digits) {
-        Some(n) => Some(u64::from(n)),
-        None => Some(u64::MAX),
-    }
+    Some(number_of(digits).map_or(u64::MAX, u64::from))
 }
 
 // The arguments behind the program's own name; None if they are not what is expected.
@@ -76,10 +68,20 @@ fn read_command(rt: &HostRuntime) -> io::Result<Option<Command>> {
     }))
 }
 
-fn refuse(rt: &HostRuntime, refusal: Refusal) -> io::Result<()> {
-    let number = rule_number(refusal.rule);
-    let place = refusal.place;
-    println!(rt; "refused {number} at {place}")
+// Plays the text of a file; what is given is looked at before it is read.
+fn play_file(rt: &HostRuntime, heap: Global, command: &Command) -> Result<Outcome, Failure> {
+    let settings = settle(command.asked)?;
+    let loud = command.loud;
+    let bytes = fs::read(rt, command.path.as_str())?;
+    let mut out = BufWriter::new(heap, rt.stdout())?;
+    let outcome = play(heap, bytes.as_slice(), settings, &mut out, |messages| {
+        if loud {
+            eprintln!(rt; "{messages} messages")?;
+        }
+        Ok(())
+    })?;
+    out.flush()?;
+    Ok(outcome)
 }
 
 fn run(rt: &HostRuntime, heap: Global) -> anyhow::Result<()> {
@@ -87,26 +89,10 @@ fn run(rt: &HostRuntime, heap: Global) -> anyhow::Result<()> {
         eprintln!(rt; "{USAGE}")?;
         return Err(anyhow!("the arguments are not what is expected"));
     };
-    let settings = match settle(command.asked) {
-        Ok(settings) => settings,
-        Err(refusal) => {
-            refuse(rt, refusal)?;
-            return Ok(());
-        }
-    };
-    let bytes = fs::read(rt, command.path.as_str())?;
-    let mut out = BufWriter::new(heap, rt.stdout())?;
-    let outcome = play(heap, bytes.as_slice(), settings, &mut out, |messages| {
-        if command.loud {
-            eprintln!(rt; "{messages} messages")?;
-        }
-        Ok(())
-    });
-    out.flush()?;
-    match outcome {
+    match play_file(rt, heap, &command) {
         Ok(Outcome::Ended) => println!(rt; "done")?,
         Ok(_) => println!(rt; "not done")?,
-        Err(Failure::Refused(refusal)) => refuse(rt, refusal)?,
+        Err(Failure::Refused(refusal)) => println!(rt; "{refusal}")?,
         Err(Failure::Io(error)) => return Err(error.into()),
     }
     Ok(())

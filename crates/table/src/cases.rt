@@ -77,7 +77,7 @@ fn split_at_first(line: &[u8], wanted: u8) -> (&[u8], Option<&[u8]>) {
 // COUNT:STRING, the bytes of STRING as often as COUNT says.
 fn repeat(heap: Global, out: &mut Vec<u8>, inside: &[u8]) -> Result<(), AllocError> {
     let (count, string) = split_at_first(inside, b':');
-    let (Some(count), Some(string)) = (checker::number_of(count), string) else {
+    let (Some(count), Some(string)) = (words::number_of(count), string) else {
         return Ok(());
     };
     let bytes = unescape_all(heap, string)?;

@@ -5,18 +5,11 @@ mod cases;
 
 use anyhow::anyhow;
 use cases::{Case, cases, expand};
-use checker::{Refusal, rule_number};
 use sequential::Outcome;
 use std::alloc::{AllocError, Global};
 use std::{fs, io};
 use text::play::{Given, play, settle};
 use text::stage::{Failure, Stage, open};
-
-fn refused(heap: Global, refusal: Refusal) -> Result<String, AllocError> {
-    let number = rule_number(refusal.rule);
-    let place = refusal.place;
-    format!(in heap; "refused {number} at {place}")
-}
 
 // Whether a text that was taken, written anew, is read and then written as the same.
 fn lasts(heap: Global, stage: &Stage, most: usize) -> Result<bool, Failure> {
@@ -29,7 +22,7 @@ fn lasts(heap: Global, stage: &Stage, most: usize) -> Result<bool, Failure> {
 fn answer(heap: Global, text: &[u8]) -> io::Result<String> {
     let stage = match open(heap, text) {
         Ok(stage) => stage,
-        Err(Failure::Refused(refusal)) => return Ok(refused(heap, refusal)?),
+        Err(Failure::Refused(refusal)) => return Ok(format!(in heap; "{refusal}")?),
         Err(Failure::Io(error)) => return Err(error),
     };
     let answer = match lasts(heap, &stage, text.len()) {
@@ -73,7 +66,7 @@ fn play_models(rt: &HostRuntime, heap: Global) -> anyhow::Result<()> {
             bytes,
             expected,
         } = *case;
-        let end = match checker::number_of(expected) {
+        let end = match words::number_of(expected) {
             Some(end) => u64::from(end),
             None => 0,
         };
@@ -97,10 +90,7 @@ fn play_model(rt: &HostRuntime, heap: Global, text: &[u8], end: u64) -> anyhow::
     match play(heap, text, settings, &mut rt.stdout(), |_count| Ok(())) {
         Ok(Outcome::Ended) => println!(rt; "done")?,
         Ok(_) => println!(rt; "not done")?,
-        Err(Failure::Refused(refusal)) => {
-            let words = refused(heap, refusal)?;
-            println!(rt; "{words}")?;
-        }
+        Err(Failure::Refused(refusal)) => println!(rt; "{refusal}")?,
         Err(Failure::Io(error)) => return Err(error.into()),
     }
     Ok(())

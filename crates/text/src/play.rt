@@ -1,6 +1,6 @@
 // A text is played: it is read, and what its model says is written line by line.
 ghost use Rattle.std.specs.Prelude.{◌≡◌};
-ghost use Rattle.text.specs.Asked.{settled, lent};
+ghost use Rattle.text.specs.Asked.{settled};
 
 use super::stage::{Failure, open};
 use body::Process;
@@ -33,28 +33,19 @@ pub fn settle(asked: Asked) -> Result<Settings, Refusal>
     ensures { result ≡ settled asked }
 {
     if asked.end == 0 || asked.end > 4294967295 {
-        return Err(not_in_range(1));
+        return Err(Rule::Lent.refusal(1));
     }
     if asked.luck > 2147483647 {
-        return Err(not_in_range(2));
+        return Err(Rule::Lent.refusal(2));
     }
     if asked.places == 0 || asked.places > 65536 {
-        return Err(not_in_range(3));
+        return Err(Rule::Lent.refusal(3));
     }
     Ok(Given {
         end: asked.end as u32,
         luck: asked.luck as u32,
         places: asked.places as u32,
     })
-}
-
-fn not_in_range(place: usize) -> Refusal
-    ensures { result ≡ lent place }
-{
-    Refusal {
-        rule: Rule::Lent,
-        place,
-    }
 }
 
 // Plays a model from its start to its end, or as far as it can be: writes the lines that it says as they come, and tells from time to

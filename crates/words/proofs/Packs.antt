@@ -244,7 +244,7 @@ read_not f (got a c) r e = absurd (let z : ◌≡◌ {A = ℕ} 0 1 = cc in omega
 read_not f (bad c) r e = let h : c ≡ r = cc in ap bad h
 
 -- What is read as a name is that name packed.
-named_is : (q p : ℕ) → word_by q ≡ Name p → q ≡ p
+pub named_is : (q p : ℕ) → word_by q ≡ Name p → q ≡ p
 named_is q p e = go (word_by q) (spelled q) e
   where
     go : (k : Word) → Spelled q k → k ≡ Name p → q ≡ p
