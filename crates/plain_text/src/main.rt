@@ -2,13 +2,13 @@
 #![tactic(auto)]
 
 use anyhow::anyhow;
-use words::number_of;
 use sequential::Outcome;
 use std::alloc::Global;
 use std::io::{BufWriter, Write};
 use std::{env, fs, io};
 use text::play::{Asked, Given, play, settle};
 use text::stage::Failure;
+use words::number_of;
 
 const USAGE: &str = "usage: plain_text TEXT LUCK END R [progress]
   TEXT      a file with the text of a model
