@@ -49,10 +49,6 @@ abbrev pub before : List (List ℕ) → Checked (List (List ℕ)) → Checked (L
 before ps (taken ws c) = taken (ps ++ ws) c
 before ps (refused m c) = refused m c
 
-pub before_none : (g : Checked (List (List ℕ))) → before [] g ≡ g
-before_none (taken ws c) = refl
-before_none (refused m c) = refl
-
 -- The names before are ps, which are those seen.
 module _ (ps : List (List ℕ)) where
   pub names_last : (n : ℕ) (c d : List ℕ) → n ≡ 0 → expect newline c ≡ got tt d → before ps (check_names ps n c) ≡ taken ps d

@@ -26,7 +26,7 @@ impl<'a> From<&'a [u8]> for Refused<'a> {
 
 impl Rule {
     // This rule, broken at the front of a text.
-    pub fn at(self, text: &[u8]) -> Refused<'_>
+    pub(crate) fn at(self, text: &[u8]) -> Refused<'_>
         ensures { result ≡ record { rule = self; from = text.entry } }
     {
         Refused {

@@ -88,6 +88,7 @@ fn check_names<'a>(text: &'a [u8], names: &mut [u64]) -> Result<(usize, &'a [u8]
     ensures fits { IfOk result (λ n. n.0 ≤ 64) }
 {
     let mut rest = text;
+    // By number, since the names before are searched while the next is put.
     for count in 0..NAMES {
         let Some((first, behind)) = rest.split_first() else {
             return Err(Rule::Form.at(rest));
