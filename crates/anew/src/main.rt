@@ -2,7 +2,7 @@
 #![tactic(auto)]
 
 use anyhow::anyhow;
-use checker::{Refusal, rule_number};
+use checker::Refusal;
 use std::alloc::Global;
 use std::io::Write;
 use std::{env, fs, io};
@@ -24,7 +24,7 @@ fn read_path(rt: &HostRuntime) -> io::Result<Option<String>> {
 }
 
 fn refuse(rt: &HostRuntime, refusal: Refusal) -> io::Result<()> {
-    let number = rule_number(refusal.rule);
+    let number = u8::from(refusal.rule);
     let place = refusal.place;
     println!(rt; "refused {number} at {place}")
 }

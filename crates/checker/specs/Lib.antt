@@ -1,6 +1,4 @@
-pub mod Places
-pub mod Words
 pub mod Refusals
-pub mod Blocks
+pub mod Printed
+pub mod Lines
 pub mod Texts
-pub mod Heads

@@ -1,10 +1,11 @@
--- Refusals by number and place, and what a function that reads answers, as places in lent bytes.
-use Rattle.std.specs.Prelude.{ℕ, cond, List, map, drop, Some, None, Ok, Err, Option, Result, nat_lt}
-use Rattle.grammar.specs.Check.{Checked, taken, refused, decimal, too_large}
+-- Refusals by number, and what a function that reads answers, in the grammar's words.
+use Rattle.std.specs.Prelude.{ℕ, List, [], map, Ok, Err, Result}
+use Rattle.std.specs.Borrow.{Bor}
+use Rattle.grammar.specs.Check.{Checked, taken, refused}
+use Rattle.words.specs.Words.{unpack}
 use Rattle.checker.specs.declared.Rule.{Rule}
 use Rattle.checker.specs.declared.Rule.TheVariants.{Form, Name, Number, Limit, Lent, Letter}
-use Rattle.checker.specs.declared.Refusal.{Refusal}
-use Rattle.checker.specs.Words.{unpack}
+use Rattle.checker.specs.declared.limits.Refused.{Refused}
 
 -- The number of a refusal.
 abbrev pub number_of : Rule → ℕ
@@ -15,29 +16,34 @@ number_of Limit = 4
 number_of Lent = 5
 number_of Letter = 6
 
+-- What was read, in other words.
+abbrev pub map_checked : {A B : Type 0} → (A → B) → Checked A → Checked B
+map_checked f (taken a c) = taken (f a) c
+map_checked f (refused n c) = refused n c
+
 -- What was read is left out.
-abbrev pub forget : {A : Type 0} → Checked A → Checked (Unit {0})
-forget (taken a c) = taken tt c
-forget (refused n c) = refused n c
+abbrev pub left_out : {A : Type 0} → Checked A → Checked (Unit {0})
+left_out r = map_checked (λ _. tt) r
 
--- A refusal in lent bytes.
-abbrev pub refused_at : {A : Type 0} → List ℕ → Refusal → Checked A
-refused_at bs f = refused (number_of f.rule) (drop f.place bs)
+-- A refusal.
+abbrev pub refused_by : {A : Type 0} → Refused → Checked A
+refused_by f = refused (number_of f.rule) f.from.now
 
--- An answer that says where reading goes on, or the refusal.
-abbrev pub answer_at : List ℕ → Result ℕ Refusal → Checked (Unit {0})
-answer_at bs (Ok n) = taken tt (drop n bs)
-answer_at bs (Err f) = refused_at bs f
+-- What was read and the bytes behind it, or the refusal.
+abbrev pub read : {A : Type 0} → Result (A × Bor (List ℕ)) Refused → Checked A
+read (Ok r) = taken r.0 r.1.now
+read (Err f) = refused_by f
 
--- The place of an answer.
-abbrev pub place_in : Result ℕ Refusal → ℕ
-place_in (Ok n) = n
-place_in (Err f) = f.place
+-- Just the bytes behind.
+abbrev pub ended : Result (Bor (List ℕ)) Refused → Checked (Unit {0})
+ended (Ok rest) = taken tt rest.now
+ended (Err f) = refused_by f
+
+-- What was read, up to the end of the bytes.
+abbrev pub outcome : {A : Type 0} → Result A Refused → Checked A
+outcome (Ok a) = taken a []
+outcome (Err f) = refused_by f
 
 -- Names kept as packed words.
 abbrev pub names_in : List ℕ → List (List ℕ)
 names_in ps = map unpack ps
-
--- The number that digits stand for, if it is below 2^32.
-abbrev pub small_number : List ℕ → Option ℕ
-small_number ds = cond (nat_lt (decimal 0 ds) too_large) (Some (decimal 0 ds)) None

@@ -1,243 +1,152 @@
-// Expressions and the lines of a kind, checked by all rules: each function answers where what it checks ends, or the first refusal.
-ghost use Rattle.std.specs.Prelude.{◌≡◌, ℕ, ◌+◌, ◌<◌, ◌≤◌, cond, List, length, drop, IfOk};
-ghost use Rattle.grammar.specs.Parse.{got, read_word, read_sign};
-ghost use Rattle.grammar.specs.Syntax.{among, newline, Term};
-ghost use Rattle.grammar.specs.Check.{Block, Head, refused, formed, check_literal, in_line, check_operand, check_plain, check_term, check_expr, check_last, check_rest, check_send, check_value, check_assign, check_deeper, check_by, check_head, excess, check_lines};
-ghost use Rattle.checker.specs.Refusals.{forget, answer_at, refused_at, place_in, names_in};
-ghost use Rattle.checker.specs.Blocks.{shape, ended_at, ended_place};
-ghost use Rattle.checker.specs.Words.{unpack};
-ghost use Rattle.checker.specs.Heads.{word_at, sorted, sort_by, head_at, head_place};
+// Expressions and the lines of a kind, checked by all rules.
+ghost use Rattle.std.specs.Prelude.{◌≡◌, ℕ, cond, List};
+ghost use Rattle.grammar.specs.Parse.{got, read_word};
+ghost use Rattle.grammar.specs.Syntax.{newline, Term};
+ghost use Rattle.grammar.specs.Check.{Block, Head, refused, check_literal, in_line, check_operand, check_plain, check_two, check_term, check_expr, check_last, check_rest, check_send, check_value, check_assign, check_deeper, check_by, check_head, excess, check_lines};
+ghost use Rattle.words.specs.Reads.{map_got};
+ghost use Rattle.words.specs.Words.{unpack, word_of, spelling};
+ghost use Rattle.checker.specs.Refusals.{map_checked, left_out, ended, read, refused_by, names_in};
+ghost use Rattle.checker.specs.Lines.{sort_of, sort_by, shape, shape_of};
 
-use super::{
-    Closing, Ended, LINE, Refusal, Rule, Word, check_literal, check_number, cut_off, is_letter,
-    is_too_long, packed, read_sign, read_word, surplus, word_by,
-};
-
-// Whether a packed word is one of these names.
-pub fn is_known(names: &[u64], word: u64) -> bool
-    ensures { result ≡ among (unpack word) (names_in names.now) }
-{
-    for name in names {
-        if *name == word {
-            return true;
-        }
-    }
-    false
-}
-
-// A word of at most eight bytes, a letter first.
-fn check_word(bytes: &[u8], at: usize) -> Result<usize, Refusal>
-    requires { at ≤ length bytes.now }
-    ensures answers { formed (read_word (drop at bytes.now)) ≡ word_at bytes.now at result }
-    ensures inside { place_in result ≤ length bytes.now }
-    ensures short { IfOk result (λ e. (at < e) × (e ≤ at + 8)) }
-{
-    match read_word(bytes, at) {
-        Ok(end) => Ok(end),
-        Err(place) => Err(Refusal {
-            rule: Rule::Form,
-            place,
-        }),
-    }
-}
-
-// The sign of an operation.
-fn check_sign(bytes: &[u8], at: usize) -> Result<usize, Refusal>
-    requires { at ≤ length bytes.now }
-    ensures answers { forget (formed (read_sign (drop at bytes.now))) ≡ answer_at bytes.now result }
-    ensures inside { place_in result ≤ length bytes.now }
-{
-    match read_sign(bytes, at) {
-        Ok(end) => Ok(end),
-        Err(place) => Err(Refusal {
-            rule: Rule::Form,
-            place,
-        }),
-    }
-}
+use super::Rule;
+use crate::limits::{LINE, Refused, TOO_LARGE, check_below, cut_off, within_line};
+use words::{Word, begins_with_letter, read_literal, read_sign, read_word};
 
 // A word that stands for a number: it, me, now, or a name that is known.
-fn check_operand(bytes: &[u8], at: usize, names: &[u64]) -> Result<usize, Refusal>
-    requires { at ≤ length bytes.now }
-    ensures answers { forget (check_operand (names_in names.now) (drop at bytes.now)) ≡ answer_at bytes.now result }
-    ensures inside { place_in result ≤ length bytes.now }
+fn check_operand<'a>(text: &'a [u8], names: &[u64]) -> Result<&'a [u8], Refused<'a>>
+    ensures { left_out (check_operand (names_in names.now) text.now) ≡ ended result }
 {
-    let end = check_word(bytes, at)?;
-    let word = packed(&bytes[at..end]);
-    match word_by(word) {
-        Word::It | Word::Me | Word::Now => Ok(end),
-        Word::Name => {
-            if is_known(names, word) {
-                Ok(end)
+    let (word, rest) = read_word(text)?;
+    match word {
+        Word::It | Word::Me | Word::Now => Ok(rest),
+        Word::Name(name) => {
+            if names.contains(&name) {
+                Ok(rest)
             } else {
-                Err(Refusal {
-                    rule: Rule::Name,
-                    place: at,
-                })
+                Err(Rule::Name.at(text))
             }
         }
-        _ => Err(Refusal {
-            rule: Rule::Form,
-            place: end,
-        }),
+        _ => Err(Rule::Form.at(rest)),
     }
 }
 
 // A number, or a word that stands for one.
-fn check_plain(bytes: &[u8], at: usize, names: &[u64]) -> Result<usize, Refusal>
-    requires { at ≤ length bytes.now }
-    ensures answers { forget (check_plain (names_in names.now) (drop at bytes.now)) ≡ answer_at bytes.now result }
-    ensures inside { place_in result ≤ length bytes.now }
+fn check_plain<'a>(text: &'a [u8], names: &[u64]) -> Result<&'a [u8], Refused<'a>>
+    ensures { left_out (check_plain (names_in names.now) text.now) ≡ ended result }
 {
-    if at >= bytes.len() {
-        return Err(Refusal {
-            rule: Rule::Form,
-            place: at,
-        });
-    }
-    if is_letter(bytes[at]) {
-        check_operand(bytes, at, names)
+    if begins_with_letter(text) {
+        check_operand(text, names)
     } else {
-        check_number(bytes, at)
+        check_below(text, TOO_LARGE)
     }
+}
+
+// Two expressions with a sign between, behind the parenthesis that opens; each at most so deep.
+#[cycle(terms)]
+fn check_two<'a>(text: &'a [u8], names: &[u64], depth: usize) -> Result<&'a [u8], Refused<'a>>
+    ensures { left_out (check_two (check_term (names_in names.now) depth) text.now) ≡ ended result }
+{
+    let rest = check_term(text, names, depth)?;
+    let rest = read_literal(rest, b" ")?;
+    let (_, rest) = read_sign(rest)?;
+    let rest = read_literal(rest, b" ")?;
+    let rest = check_term(rest, names, depth)?;
+    Ok(read_literal(rest, b")")?)
 }
 
 // An expression, at most so deep.
-fn check_term(bytes: &[u8], at: usize, names: &[u64], depth: usize) -> Result<usize, Refusal>
-    requires { at ≤ length bytes.now }
-    ensures answers { forget (check_term (names_in names.now) depth (drop at bytes.now)) ≡ answer_at bytes.now result }
-    ensures inside { place_in result ≤ length bytes.now }
+#[cycle(terms)]
+fn check_term<'a>(text: &'a [u8], names: &[u64], depth: usize) -> Result<&'a [u8], Refused<'a>>
+    ensures { left_out (check_term (names_in names.now) depth text.now) ≡ ended result }
 {
     if depth == 0 {
-        return Err(Refusal {
-            rule: Rule::Limit,
-            place: at,
-        });
+        return Err(Rule::Limit.at(text));
     }
-    if at >= bytes.len() {
-        return Err(Refusal {
-            rule: Rule::Form,
-            place: at,
-        });
+    match read_literal(text, b"(") {
+        Ok(rest) => check_two(rest, names, depth - 1),
+        Err(_) => check_plain(text, names),
     }
-    if bytes[at] != b'(' {
-        return check_plain(bytes, at, names);
-    }
-    let first = check_term(bytes, at + 1, names, depth - 1)?;
-    let space = check_literal(bytes, first, b" ")?;
-    let sign = check_sign(bytes, space)?;
-    let gap = check_literal(bytes, sign, b" ")?;
-    let second = check_term(bytes, gap, names, depth - 1)?;
-    check_literal(bytes, second, b")")
 }
 
 // An expression.
-fn check_expr(bytes: &[u8], at: usize, names: &[u64]) -> Result<usize, Refusal>
-    requires { at ≤ length bytes.now }
-    ensures answers { forget (check_expr (names_in names.now) (drop at bytes.now)) ≡ answer_at bytes.now result }
-    ensures inside { place_in result ≤ length bytes.now }
+fn check_expr<'a>(text: &'a [u8], names: &[u64]) -> Result<&'a [u8], Refused<'a>>
+    ensures { left_out (check_expr (names_in names.now) text.now) ≡ ended result }
 {
-    check_term(bytes, at, names, LINE)
+    check_term(text, names, LINE)
 }
 
 // An expression that ends the line.
-fn check_last(bytes: &[u8], at: usize, names: &[u64]) -> Result<usize, Refusal>
-    requires { at ≤ length bytes.now }
-    ensures answers { forget (check_last (names_in names.now) (drop at bytes.now)) ≡ answer_at bytes.now result }
-    ensures inside { place_in result ≤ length bytes.now }
+fn check_last<'a>(text: &'a [u8], names: &[u64]) -> Result<&'a [u8], Refused<'a>>
+    ensures { left_out (check_last (names_in names.now) text.now) ≡ ended result }
 {
-    let end = check_expr(bytes, at, names)?;
-    check_literal(bytes, end, b"\n")
+    let rest = check_expr(text, names)?;
+    Ok(read_literal(rest, b"\n")?)
 }
 
 // A space and an expression that ends the line.
-fn check_rest(bytes: &[u8], at: usize, names: &[u64]) -> Result<usize, Refusal>
-    requires { at ≤ length bytes.now }
-    ensures answers { (f : Term → Head) → forget (check_rest (names_in names.now) f (drop at bytes.now)) ≡ answer_at bytes.now result }
-    ensures inside { place_in result ≤ length bytes.now }
+fn check_rest<'a>(text: &'a [u8], names: &[u64]) -> Result<&'a [u8], Refused<'a>>
+    ensures { (f : Term → Head) → left_out (check_rest (names_in names.now) f text.now) ≡ ended result }
 {
-    let space = check_literal(bytes, at, b" ")?;
-    check_last(bytes, space, names)
+    let rest = read_literal(text, b" ")?;
+    check_last(rest, names)
 }
 
 // What stands behind send: what, to whom, after how long.
-fn check_send(bytes: &[u8], at: usize, names: &[u64]) -> Result<usize, Refusal>
-    requires { at ≤ length bytes.now }
-    ensures answers { forget (check_send (names_in names.now) (drop at bytes.now)) ≡ answer_at bytes.now result }
-    ensures inside { place_in result ≤ length bytes.now }
+fn check_send<'a>(text: &'a [u8], names: &[u64]) -> Result<&'a [u8], Refused<'a>>
+    ensures { left_out (check_send (names_in names.now) text.now) ≡ ended result }
 {
-    let space = check_literal(bytes, at, b" ")?;
-    let what = check_expr(bytes, space, names)?;
-    let to = check_literal(bytes, what, b" to ")?;
-    let whom = check_expr(bytes, to, names)?;
-    let after = check_literal(bytes, whom, b" after ")?;
-    check_last(bytes, after, names)
+    let rest = read_literal(text, b" ")?;
+    let rest = check_expr(rest, names)?;
+    let rest = read_literal(rest, b" to ")?;
+    let rest = check_expr(rest, names)?;
+    let rest = read_literal(rest, b" after ")?;
+    check_last(rest, names)
 }
 
 // What is assigned: a draw, or an expression that ends the line.
-fn check_value(bytes: &[u8], at: usize, names: &[u64]) -> Result<usize, Refusal>
-    requires { at ≤ length bytes.now }
-    ensures answers { (w : List ℕ) → forget (check_value (names_in names.now) w (drop at bytes.now)) ≡ answer_at bytes.now result }
-    ensures inside { place_in result ≤ length bytes.now }
+fn check_value<'a>(text: &'a [u8], names: &[u64]) -> Result<&'a [u8], Refused<'a>>
+    ensures { (w : List ℕ) → left_out (check_value (names_in names.now) w text.now) ≡ ended result }
 {
-    if at >= bytes.len() {
-        return Err(Refusal {
-            rule: Rule::Form,
-            place: at,
-        });
+    if !begins_with_letter(text) {
+        return check_last(text, names);
     }
-    if !is_letter(bytes[at]) {
-        return check_last(bytes, at, names);
-    }
-    let end = check_word(bytes, at)?;
-    match word_by(packed(&bytes[at..end])) {
-        Word::Draw => check_rest(bytes, end, names),
-        _ => check_last(bytes, at, names),
+    let (word, rest) = read_word(text)?;
+    match word {
+        Word::Draw => check_rest(rest, names),
+        _ => check_last(text, names),
     }
 }
 
-// The line at a place that begins with a word, which has to be a known name and ends at another place.
-fn check_assign(
-    bytes: &[u8],
-    at: usize,
-    end: usize,
-    word: u64,
+// The line in front, whose name has to be known; the rest stands behind the name.
+fn check_assign<'a>(
+    text: &'a [u8],
+    name: u64,
+    rest: &'a [u8],
     names: &[u64],
-) -> Result<usize, Refusal>
-    requires { (at ≤ length bytes.now) × (end ≤ length bytes.now) }
-    ensures answers { forget (check_assign (names_in names.now) (drop at bytes.now) (unpack word) (drop end bytes.now)) ≡ answer_at bytes.now result }
-    ensures inside { place_in result ≤ length bytes.now }
+) -> Result<&'a [u8], Refused<'a>>
+    ensures { left_out (check_assign (names_in names.now) text.now (unpack name) rest.now) ≡ ended result }
 {
-    if !is_known(names, word) {
-        return Err(Refusal {
-            rule: Rule::Name,
-            place: at,
-        });
+    if !names.contains(&name) {
+        return Err(Rule::Name.at(text));
     }
-    let value = check_literal(bytes, end, b" = ")?;
-    check_value(bytes, value, names)
+    let rest = read_literal(rest, b" = ")?;
+    check_value(rest, names)
 }
 
-// The first line of a branch or a repeat, whose word ends at a place; too deep if no more may stand in each other.
-fn check_deeper(
-    bytes: &[u8],
-    at: usize,
-    end: usize,
+// The first line of a branch or a repeat, in front; the rest stands behind its word. It is too deep if no more may stand in each other.
+fn check_deeper<'a>(
+    text: &'a [u8],
+    rest: &'a [u8],
     names: &[u64],
     deep: usize,
-) -> Result<usize, Refusal>
-    requires { (at ≤ length bytes.now) × (end ≤ length bytes.now) }
-    ensures answers { (f : Term → Head) → forget (check_deeper (names_in names.now) deep (drop at bytes.now) f (drop end bytes.now)) ≡ answer_at bytes.now result }
-    ensures inside { place_in result ≤ length bytes.now }
+) -> Result<&'a [u8], Refused<'a>>
+    ensures { (f : Term → Head) → left_out (check_deeper (names_in names.now) deep text.now f rest.now) ≡ ended result }
 {
-    let space = check_literal(bytes, end, b" ")?;
+    let rest = read_literal(rest, b" ")?;
     if deep == 0 {
-        return Err(Refusal {
-            rule: Rule::Limit,
-            place: at,
-        });
+        return Err(Rule::Limit.at(text));
     }
-    check_last(bytes, space, names)
+    check_last(rest, names)
 }
 
 // What sort of line it is: what closes lines, a line with no lines in it, or the first line of a repeat or a branch.
@@ -250,184 +159,143 @@ enum Sort {
     If,
 }
 
-// Where a line ends, and its sort.
-#[derive(Clone, Copy)]
-struct HeadAt {
-    at: usize,
-    sort: Sort,
+// The sort of a line that begins with a word.
+impl From<Word> for Sort {
+    ghost from_gives = { λ word sort. sort ≡ sort_by word };
+
+    fn from(word: Word) -> Sort {
+        match word {
+            Word::End => Sort::End,
+            Word::Else => Sort::Else,
+            Word::Again => Sort::Again,
+            Word::If => Sort::If,
+            _ => Sort::Simple,
+        }
+    }
 }
 
-// The sort of a line that begins with a word.
-fn sort_by(word: Word) -> Sort
-    ensures { result ≡ sort_by word }
+// Where lines stand: the names of the kind's numbers, how many branches and repeats may still stand in each other, and whether else may close them.
+#[derive(Clone, Copy)]
+pub struct Scope<'a> {
+    pub names: &'a [u64],
+    pub deep: usize,
+    pub or_else: bool,
+}
+
+// The end of the line behind a word that closes lines, if it may stand there.
+fn check_close(text: &[u8], may_close: bool) -> Result<&[u8], Refused<'_>>
+    ensures { cond may_close (check_literal newline text.now) (refused 1 text.now) ≡ ended result }
+{
+    if may_close {
+        Ok(read_literal(text, b"\n")?)
+    } else {
+        Err(Rule::Form.at(text))
+    }
+}
+
+// The line in front by its first word; the rest stands behind it.
+fn check_by<'a>(
+    text: &'a [u8],
+    word: Word,
+    rest: &'a [u8],
+    scope: Scope,
+) -> Result<&'a [u8], Refused<'a>>
+    requires { map_got word_of (read_word text.now) ≡ got word rest.now }
+    ensures { left_out (check_by (names_in scope.entry.names.now) scope.entry.deep scope.entry.or_else text.now (spelling word) rest.now) ≡ ended result }
 {
     match word {
-        Word::End => Sort::End,
-        Word::Else => Sort::Else,
-        Word::Again => Sort::Again,
-        Word::If => Sort::If,
-        _ => Sort::Simple,
-    }
-}
-
-// The end of the line behind else, if an else may stand there.
-fn check_else(bytes: &[u8], at: usize, or_else: bool) -> Result<usize, Refusal>
-    requires { at ≤ length bytes.now }
-    ensures answers { cond or_else (check_literal newline (drop at bytes.now)) (refused 1 (drop at bytes.now)) ≡ answer_at bytes.now result }
-    ensures inside { place_in result ≤ length bytes.now }
-{
-    if or_else {
-        check_literal(bytes, at, b"\n")
-    } else {
-        Err(Refusal {
-            rule: Rule::Form,
-            place: at,
-        })
-    }
-}
-
-// The line at a place by its first word, which ends at another place.
-fn check_by(
-    bytes: &[u8],
-    at: usize,
-    end: usize,
-    word: u64,
-    names: &[u64],
-    deep: usize,
-    or_else: bool,
-) -> Result<usize, Refusal>
-    requires from { at ≤ length bytes.now }
-    requires to { end ≤ length bytes.now }
-    requires reads { read_word (drop at bytes.now) ≡ got (unpack word) (drop end bytes.now) }
-    ensures answers { forget (check_by (names_in names.now) deep or_else (drop at bytes.now) (unpack word) (drop end bytes.now)) ≡ answer_at bytes.now result }
-    ensures inside { place_in result ≤ length bytes.now }
-{
-    match word_by(word) {
-        Word::End => check_literal(bytes, end, b"\n"),
-        Word::Else => check_else(bytes, end, or_else),
-        Word::Say => check_rest(bytes, end, names),
-        Word::Send => check_send(bytes, end, names),
-        Word::If | Word::Again => check_deeper(bytes, at, end, names, deep),
-        Word::Name => check_assign(bytes, at, end, word, names),
-        _ => Err(Refusal {
-            rule: Rule::Form,
-            place: end,
-        }),
+        Word::End => check_close(rest, true),
+        Word::Else => check_close(rest, scope.or_else),
+        Word::Say => check_rest(rest, scope.names),
+        Word::Send => check_send(rest, scope.names),
+        Word::If | Word::Again => check_deeper(text, rest, scope.names, scope.deep),
+        Word::Name(name) => check_assign(text, name, rest, scope.names),
+        _ => Err(Rule::Form.at(rest)),
     }
 }
 
 // One line of a kind.
-fn check_head(
-    bytes: &[u8],
-    at: usize,
-    names: &[u64],
-    deep: usize,
-    or_else: bool,
-) -> Result<HeadAt, Refusal>
-    requires { at ≤ length bytes.now }
-    ensures answers { sorted (check_head (names_in names.now) deep or_else (drop at bytes.now)) ≡ head_at bytes.now result }
-    ensures inside { head_place result ≤ length bytes.now }
+fn check_head<'a>(text: &'a [u8], scope: Scope) -> Result<(Sort, &'a [u8]), Refused<'a>>
+    ensures { map_checked sort_of (check_head (names_in scope.entry.names.now) scope.entry.deep scope.entry.or_else text.now) ≡ read result }
 {
-    let end = check_word(bytes, at)?;
-    let word = packed(&bytes[at..end]);
-    let next = check_by(bytes, at, end, word, names, deep, or_else)?;
-    Ok(HeadAt {
-        at: next,
-        sort: sort_by(word_by(word)),
-    })
-}
-
-// One line of a kind, which may have 1,024 bytes.
-fn check_line(
-    bytes: &[u8],
-    at: usize,
-    names: &[u64],
-    deep: usize,
-    or_else: bool,
-) -> Result<HeadAt, Refusal>
-    requires { at ≤ length bytes.now }
-    ensures answers { sorted (in_line (drop at bytes.now) (check_head (names_in names.now) deep or_else (drop at bytes.now))) ≡ head_at bytes.now result }
-    ensures inside { head_place result ≤ length bytes.now }
-{
-    let head = check_head(bytes, at, names, deep, or_else);
-    if !is_too_long(bytes, at) {
-        return head;
-    }
-    match head {
-        Ok(_) => Err(Refusal {
-            rule: Rule::Limit,
-            place: at + LINE,
-        }),
-        Err(refusal) => Err(cut_off(bytes, at, LINE, refusal)),
-    }
+    let (word, rest) = read_word(text)?;
+    let rest = check_by(text, word, rest, scope)?;
+    Ok((Sort::from(word), rest))
 }
 
 // The refusal where no line may come any more: one line too many, unless its first byte is refused by a rule that comes before.
-fn none_left(bytes: &[u8], at: usize, names: &[u64], deep: usize, or_else: bool) -> Refusal
-    requires { at ≤ length bytes.now }
-    ensures answers { excess {B = Block} (drop at bytes.now) (check_head (names_in names.now) deep or_else (drop at bytes.now)) ≡ refused_at bytes.now result }
-    ensures inside { result.place ≤ length bytes.now }
+fn none_left<'a>(text: &'a [u8], scope: Scope) -> Refused<'a>
+    ensures { excess {B = Block} text.now (check_head (names_in scope.entry.names.now) scope.entry.deep scope.entry.or_else text.now) ≡ refused_by result }
 {
-    match check_head(bytes, at, names, deep, or_else) {
-        Ok(_) => Refusal {
-            rule: Rule::Limit,
-            place: at,
-        },
-        Err(refusal) => surplus(bytes, at, refusal),
-    }
+    cut_off(text, 0, check_head(text, scope))
 }
 
-// Lines up to the end that closes them, or the else, if that may be: so many of them may come, and so many stand in each other. The recursion
-// goes no deeper than most, which is more than may come.
-pub fn check_lines(
-    bytes: &[u8],
-    at: usize,
-    names: &[u64],
+// How lines close: by end, or by else.
+#[derive(Clone, Copy)]
+pub enum Closing {
+    End,
+    Else,
+}
+
+// Lines by how they close, and how many lines may still come.
+#[derive(Clone, Copy)]
+pub struct Ended {
+    pub by: Closing,
+    pub left: usize,
+}
+
+// Lines up to the end that closes them, or the else, if that may be: so many of them may come. The recursion goes no deeper than most, which is
+// more than may come.
+pub fn check_lines<'a>(
+    text: &'a [u8],
+    scope: Scope,
     most: usize,
     left: usize,
-    deep: usize,
-    or_else: bool,
-) -> Result<Ended, Refusal>
-    requires { at ≤ length bytes.now }
-    ensures answers { shape (check_lines (names_in names.now) most left deep or_else (drop at bytes.now)) ≡ ended_at bytes.now result }
-    ensures inside { ended_place result ≤ length bytes.now }
+) -> Result<(Ended, &'a [u8]), Refused<'a>>
+    ensures { map_checked shape (check_lines (names_in scope.entry.names.now) most left scope.entry.deep scope.entry.or_else text.now) ≡ map_checked shape_of (read result) }
 {
     if most == 0 {
-        return Err(Refusal {
-            rule: Rule::Limit,
-            place: at,
-        });
+        return Err(Rule::Limit.at(text));
     }
     if left == 0 {
-        return Err(none_left(bytes, at, names, deep, or_else));
+        return Err(none_left(text, scope));
     }
-    let head = check_line(bytes, at, names, deep, or_else)?;
+    let (sort, rest) = within_line(text, check_head(text, scope))?;
     let next = most - 1;
-    let later = left - 1;
-    let inner = deep.saturating_sub(1);
-    match head.sort {
-        Sort::End => Ok(Ended {
-            at: head.at,
-            by: Closing::End,
-            left: later,
-        }),
-        Sort::Else => Ok(Ended {
-            at: head.at,
-            by: Closing::Else,
-            left: later,
-        }),
-        Sort::Simple => check_lines(bytes, head.at, names, next, later, deep, or_else),
+    let left = left - 1;
+    let body = Scope {
+        names: scope.names,
+        deep: scope.deep.saturating_sub(1),
+        or_else: false,
+    };
+    match sort {
+        Sort::End => {
+            let by = Closing::End;
+            Ok((Ended { by, left }, rest))
+        }
+        Sort::Else => {
+            let by = Closing::Else;
+            Ok((Ended { by, left }, rest))
+        }
+        Sort::Simple => check_lines(rest, scope, next, left),
         Sort::Again => {
-            let body = check_lines(bytes, head.at, names, next, later, inner, false)?;
-            check_lines(bytes, body.at, names, next, body.left, deep, or_else)
+            let (inner, rest) = check_lines(rest, body, next, left)?;
+            check_lines(rest, scope, next, inner.left)
         }
         Sort::If => {
-            let first = check_lines(bytes, head.at, names, next, later, inner, true)?;
-            if let Closing::End = first.by {
-                return check_lines(bytes, first.at, names, next, first.left, deep, or_else);
+            let branch = Scope {
+                names: scope.names,
+                deep: body.deep,
+                or_else: true,
+            };
+            let (first, rest) = check_lines(rest, branch, next, left)?;
+            match first.by {
+                Closing::End => check_lines(rest, scope, next, first.left),
+                Closing::Else => {
+                    let (second, rest) = check_lines(rest, body, next, first.left)?;
+                    check_lines(rest, scope, next, second.left)
+                }
             }
-            let second = check_lines(bytes, first.at, names, next, first.left, inner, false)?;
-            check_lines(bytes, second.at, names, next, second.left, deep, or_else)
         }
     }
 }

@@ -1,18 +1,17 @@
 // Texts checked with all their rules: names, kinds, things and messages.
-ghost use Rattle.std.specs.Prelude.{◌≡◌, ℕ, ◌+◌, ◌<◌, ◌≤◌, [], length, drop, IfOk, None as Absent};
-ghost use Rattle.grammar.specs.Syntax.{Text, among};
-ghost use Rattle.grammar.specs.Check.{excess, formed, large_at, sooner, check_new, check_names, check_first, check_kind, in_line, most_names, check_row, check_thing, check_target, check_note, check_notes, check_things, check_kinds, check as checked, most_notes, most_things, too_large};
+ghost use Rattle.std.specs.Prelude.{◌≡◌, ◌==◌, ◌≤◌, [], length, IfOk, None as Absent};
+ghost use Rattle.grammar.specs.Check.{check_new, check_names, check_first, check_kind, most_names, check_row, check_thing, check_note, check_notes, check_things, check_kinds, check as checked, most_notes, most_things, too_large, broken, sooner, large_at};
 ghost use Rattle.grammar.specs.Parse.{read_name};
-ghost use Rattle.checker.specs.Refusals.{forget as left_out, answer_at, place_in, names_in, refused_at};
-ghost use Rattle.checker.specs.Places.{span};
-ghost use Rattle.checker.specs.Texts.{known_in, named_at, named_place, names_at, names_place, first_at, first_place, without_lines, kind_at, kind_place, row_length, row_at, row_place, sized, sized_at, amounts, counts_at, refused_inside, sizes, extent_at, Answered, broken_by, some_inside, large_inside, from_place, counted_by};
-ghost use Rattle.checker.specs.Words.{unpack};
+ghost use Rattle.grammar.specs.Syntax.{Text};
+ghost use Rattle.words.specs.Reads.{first_is};
+ghost use Rattle.words.specs.Words.{unpack};
+ghost use Rattle.checker.specs.Refusals.{map_checked, left_out, refused_by, read, ended, outcome, names_in};
+ghost use Rattle.checker.specs.Texts.{known_in, counted_by, names_from, first_from, seen, seen_read, row_length, length_of, rest_of, amounts, amounts_of, sizes, sizes_of, sized, Answered};
 
-use crate::lines::{check_lines, is_known};
-use crate::{
-    LINE, Refusal, Rule, check_literal, check_number, cut_off, is_too_long, number_of, packed,
-    read_name, read_number, surplus,
-};
+use crate::limits::{Refused, TOO_LARGE, check_below, cut_off, within_line};
+use crate::lines::{Scope, check_lines};
+use crate::{Refusal, Rule};
+use words::{number_of, read_literal, read_name, read_number};
 
 // A kind that was read: its packed name, and how many numbers it has.
 #[derive(Clone, Copy)]
@@ -21,42 +20,11 @@ pub struct Kept {
     pub count: usize,
 }
 
-// A name, packed, and where it ends.
+// A row of numbers: how many there are, and where the first begins that is too large.
 #[derive(Clone, Copy)]
-pub struct Named {
-    pub at: usize,
-    pub word: u64,
-}
-
-// Names in a table: where they end, and how many.
-#[derive(Clone, Copy)]
-pub struct Names {
-    pub at: usize,
+pub struct Row<'a> {
     pub count: usize,
-}
-
-// The first line of a kind: where it ends, the packed name, and how many numbers.
-#[derive(Clone, Copy)]
-pub struct First {
-    pub at: usize,
-    pub name: u64,
-    pub count: usize,
-}
-
-// A kind: where it ends, what is kept of it, and how many lines may still come.
-#[derive(Clone, Copy)]
-pub struct Counted {
-    pub at: usize,
-    pub kind: Kept,
-    pub left: usize,
-}
-
-// A row of numbers: where it ends, how many there are, and where the first begins that is too large.
-#[derive(Clone, Copy)]
-pub struct Row {
-    pub at: usize,
-    pub count: usize,
-    pub large: Option<usize>,
+    pub large: Option<&'a [u8]>,
 }
 
 // How many things and messages.
@@ -90,30 +58,12 @@ const NOTES: usize = 65536;
 // The most bytes of a text.
 const BYTES: usize = 67108864;
 
-// A name.
-fn check_name(bytes: &[u8], at: usize) -> Result<Named, Refusal>
-    requires { at ≤ length bytes.now }
-    ensures answers { formed (read_name (drop at bytes.now)) ≡ named_at bytes.now result }
-    ensures inside { named_place result ≤ length bytes.now }
-{
-    match read_name(bytes, at) {
-        Ok(end) => Ok(Named {
-            at: end,
-            word: packed(&bytes[at..end]),
-        }),
-        Err(place) => Err(Refusal {
-            rule: Rule::Form,
-            place,
-        }),
-    }
-}
-
-// How many numbers the kind of that name has, if there is one.
-fn count_of(kinds: &[Kept], word: u64) -> Option<usize>
-    ensures { result ≡ counted_by (unpack word) (known_in kinds.now) }
+// How many numbers the kind of that name has, if there is one. A `for`, since of what `find` gives no proof knows that the name fits 64 bits.
+fn count_of(kinds: &[Kept], name: u64) -> Option<usize>
+    ensures { result ≡ counted_by (unpack name) (known_in kinds.now) }
 {
     for kind in kinds {
-        if kind.name == word {
+        if kind.name == name {
             return Some(kind.count);
         }
     }
@@ -121,393 +71,253 @@ fn count_of(kinds: &[Kept], word: u64) -> Option<usize>
 }
 
 // A name that isn't there yet.
-fn check_new(bytes: &[u8], at: usize, seen: &[u64]) -> Result<Named, Refusal>
-    requires { at ≤ length bytes.now }
-    ensures answers { check_new (names_in seen.now) (drop at bytes.now) ≡ named_at bytes.now result }
-    ensures inside { named_place result ≤ length bytes.now }
+fn check_new<'a>(text: &'a [u8], seen: &[u64]) -> Result<(u64, &'a [u8]), Refused<'a>>
+    ensures { check_new (names_in seen.now) text.now ≡ map_checked unpack (read result) }
 {
-    let name = check_name(bytes, at)?;
-    if is_known(seen, name.word) {
-        return Err(Refusal {
-            rule: Rule::Name,
-            place: at,
-        });
+    let (name, rest) = read_name(text)?;
+    if seen.contains(&name) {
+        return Err(Rule::Name.at(text));
     }
-    Ok(name)
+    Ok((name, rest))
 }
 
-// New names, each after a space, up to the end of the line, packed into a table of 64.
-fn check_names(bytes: &[u8], at: usize, names: &mut [u64]) -> Result<Names, Refusal>
-    requires inside { at ≤ length bytes.now }
-    requires room { length names.old ≡ 64 }
-    ensures answers { check_names [] most_names (drop at bytes.now) ≡ names_at bytes.now names.new result }
-    ensures inside { names_place result ≤ length bytes.now }
-    ensures fits { IfOk result (λ n. n.count ≤ 64) }
+// New names, each after a space, up to the end of the line, packed into a table of 64; and how many. The table is an array, since there is no heap.
+fn check_names<'a>(text: &'a [u8], names: &mut [u64]) -> Result<(usize, &'a [u8]), Refused<'a>>
+    requires { length names.old ≡ 64 }
+    ensures answers { check_names [] most_names text.now ≡ map_checked (names_from names.new) (read result) }
+    ensures fits { IfOk result (λ n. n.0 ≤ 64) }
 {
-    let mut end = at;
-    let mut count = 0;
-    while count < NAMES {
-        if end >= bytes.len() {
-            return Err(Refusal {
-                rule: Rule::Form,
-                place: end,
-            });
+    let mut rest = text;
+    // By number, since the names before are searched while the next is put.
+    for count in 0..NAMES {
+        let Some((first, behind)) = rest.split_first() else {
+            return Err(Rule::Form.at(rest));
+        };
+        if *first == b'\n' {
+            return Ok((count, behind));
         }
-        if bytes[end] == b'\n' {
-            return Ok(Names { at: end + 1, count });
+        if *first != b' ' {
+            return Err(Rule::Form.at(rest));
         }
-        if bytes[end] != b' ' {
-            return Err(Refusal {
-                rule: Rule::Form,
-                place: end,
-            });
-        }
-        let name = check_new(bytes, end + 1, &names[..count])?;
-        names[count] = name.word;
-        end = name.at;
-        count += 1;
+        let (name, next) = check_new(behind, &names[..count])?;
+        names[count] = name;
+        rest = next;
     }
-    let next = check_literal(bytes, end, b"\n")?;
-    Ok(Names { at: next, count })
+    let rest = read_literal(rest, b"\n")?;
+    Ok((NAMES, rest))
 }
 
 // The first line of a kind, behind these kinds, with the names of its numbers packed into a table of 64.
-fn check_first(bytes: &[u8], at: usize, kinds: &[Kept], names: &mut [u64]) -> Result<First, Refusal>
-    requires inside { at ≤ length bytes.now }
-    requires room { length names.old ≡ 64 }
-    ensures answers { check_first (known_in kinds.now) (drop at bytes.now) ≡ first_at bytes.now names.new result }
-    ensures inside { first_place result ≤ length bytes.now }
-    ensures fits { IfOk result (λ h. h.count ≤ 64) }
-{
-    let first = check_literal(bytes, at, b"kind ")?;
-    let name = check_name(bytes, first)?;
-    if let Some(_) = count_of(kinds, name.word) {
-        return Err(Refusal {
-            rule: Rule::Name,
-            place: first,
-        });
-    }
-    let row = check_names(bytes, name.at, names)?;
-    Ok(First {
-        at: row.at,
-        name: name.word,
-        count: row.count,
-    })
-}
-
-// The same, and the line may not be too long.
-fn check_first_line(
-    bytes: &[u8],
-    at: usize,
+fn check_first<'a>(
+    text: &'a [u8],
     kinds: &[Kept],
     names: &mut [u64],
-) -> Result<First, Refusal>
-    requires inside { at ≤ length bytes.now }
-    requires room { length names.old ≡ 64 }
-    ensures answers { in_line (drop at bytes.now) (check_first (known_in kinds.now) (drop at bytes.now)) ≡ first_at bytes.now names.new result }
-    ensures inside { first_place result ≤ length bytes.now }
-    ensures fits { IfOk result (λ h. h.count ≤ 64) }
+) -> Result<(Kept, &'a [u8]), Refused<'a>>
+    requires { length names.old ≡ 64 }
+    ensures answers { check_first (known_in kinds.now) text.now ≡ map_checked (first_from names.new) (read result) }
+    ensures fits { IfOk result (λ k. k.0.count ≤ 64) }
 {
-    let first = check_first(bytes, at, kinds, names);
-    if !is_too_long(bytes, at) {
-        return first;
+    let start = read_literal(text, b"kind ")?;
+    let (name, rest) = read_name(start)?;
+    if count_of(kinds, name).is_some() {
+        return Err(Rule::Name.at(start));
     }
-    match first {
-        Ok(_) => Err(Refusal {
-            rule: Rule::Limit,
-            place: at + LINE,
-        }),
-        Err(refusal) => Err(cut_off(bytes, at, LINE, refusal)),
-    }
+    let (count, rest) = check_names(rest, names)?;
+    Ok((Kept { name, count }, rest))
 }
 
-// A kind behind these kinds, where so many lines may still come.
-fn check_kind(bytes: &[u8], at: usize, kinds: &[Kept], left: usize) -> Result<Counted, Refusal>
-    requires { at ≤ length bytes.now }
-    ensures answers { without_lines (check_kind (known_in kinds.now) left (drop at bytes.now)) ≡ kind_at bytes.now result }
-    ensures inside { kind_place result ≤ length bytes.now }
+// A kind behind these kinds, where so many lines may still come; and how many may come behind it.
+fn check_kind<'a>(
+    text: &'a [u8],
+    kinds: &[Kept],
+    left: usize,
+) -> Result<((Kept, usize), &'a [u8]), Refused<'a>>
+    ensures { map_checked seen (check_kind (known_in kinds.now) left text.now) ≡ map_checked seen_read (read result) }
 {
     if left == 0 {
-        return Err(Refusal {
-            rule: Rule::Limit,
-            place: at,
-        });
+        return Err(Rule::Limit.at(text));
     }
     let mut names = [0; NAMES];
-    let first = check_first_line(bytes, at, kinds, &mut names)?;
-    let lines = check_lines(
-        bytes,
-        first.at,
-        &names[..first.count],
-        LINES + 1,
-        left - 1,
-        DEEP,
-        false,
-    )?;
-    Ok(Counted {
-        at: lines.at,
-        kind: Kept {
-            name: first.name,
-            count: first.count,
-        },
-        left: lines.left,
-    })
+    let first = check_first(text, kinds, &mut names);
+    let (kind, rest) = within_line(text, first)?;
+    let scope = Scope {
+        names: &names[..kind.count],
+        deep: DEEP,
+        or_else: false,
+    };
+    let (lines, rest) = check_lines(rest, scope, LINES + 1, left - 1)?;
+    Ok(((kind, lines.left), rest))
 }
 
-// Where a row breaks off at a place: a number before that was too large comes first.
-fn broken(large: Option<usize>, place: usize) -> Refusal
-    ensures { result ≡ broken_by large place }
+// Where a row breaks off: a number before that was too large comes first.
+fn broken<'a>(large: Option<&'a [u8]>, rest: &'a [u8]) -> Refused<'a>
+    ensures { refused_by {A = Text} result ≡ broken (rest_of large.entry) rest.now }
 {
     match large {
-        None => Refusal {
-            rule: Rule::Form,
-            place,
-        },
-        Some(first) => Refusal {
-            rule: Rule::Number,
-            place: first,
-        },
+        None => Rule::Form.at(rest),
+        Some(number) => Rule::Number.at(number),
     }
 }
 
-// The first number of a row that is too large: one before, or this one from a place to another.
-fn first_large(bytes: &[u8], at: usize, end: usize, before: Option<usize>) -> Option<usize>
-    requires from { at ≤ end }
-    requires inside { end ≤ length bytes.now }
-    requires before { some_inside bytes.now before }
-    ensures answers { from_place bytes.now result ≡ sooner (from_place bytes.now before) (large_at (span bytes.now at end) (drop at bytes.now)) }
-    ensures inside { some_inside bytes.now result }
+// Where the first number of a row begins that is too large: one before, or these digits in front of a text.
+fn first_large<'a>(before: Option<&'a [u8]>, text: &'a [u8], digits: &[u8]) -> Option<&'a [u8]>
+    ensures { rest_of result ≡ sooner (rest_of before.entry) (large_at digits.now text.now) }
 {
-    match before {
-        Some(place) => Some(place),
-        None => match number_of(&bytes[at..end]) {
-            Some(_) => None,
-            None => Some(at),
-        },
-    }
+    before.or(number_of(digits).is_none().then_some(text))
 }
 
 // Numbers, each after a space, up to the end of the line; at most so many.
-fn check_row(bytes: &[u8], at: usize, most: usize) -> Result<Row, Refusal>
-    requires { at ≤ length bytes.now }
-    ensures answers { row_length 0 (check_row most Absent (drop at bytes.now)) ≡ row_at bytes.now result }
-    ensures inside { row_place result ≤ length bytes.now }
-    ensures large { large_inside bytes.now result }
+fn check_row<'a>(text: &'a [u8], most: usize) -> Result<(Row<'a>, &'a [u8]), Refused<'a>>
+    ensures { map_checked (row_length 0) (check_row most Absent text.now) ≡ map_checked length_of (read result) }
 {
-    let mut end = at;
-    let mut count = 0;
+    let mut rest = text;
     let mut large = None;
-    while count < most {
-        if end >= bytes.len() {
-            return Err(broken(large, end));
+    for count in 0..most {
+        let Some((first, behind)) = rest.split_first() else {
+            return Err(broken(large, rest));
+        };
+        if *first == b'\n' {
+            return Ok((Row { count, large }, behind));
         }
-        if bytes[end] == b'\n' {
-            return Ok(Row {
-                at: end + 1,
-                count,
-                large,
-            });
+        if *first != b' ' {
+            return Err(broken(large, rest));
         }
-        if bytes[end] != b' ' {
-            return Err(broken(large, end));
-        }
-        match read_number(bytes, end + 1) {
-            Err(place) => return Err(broken(large, place)),
-            Ok(next) => {
-                large = first_large(bytes, end + 1, next, large);
-                end = next;
+        match read_number(behind) {
+            Ok((digits, next)) => {
+                large = first_large(large, behind, digits);
+                rest = next;
             }
+            Err(next) => return Err(broken(large, next)),
         }
-        count += 1;
     }
-    Err(Refusal {
-        rule: Rule::Limit,
-        place: end,
-    })
+    Err(Rule::Limit.at(rest))
 }
 
 // A thing of one of these kinds.
-fn check_thing(bytes: &[u8], at: usize, kinds: &[Kept]) -> Result<usize, Refusal>
-    requires { at ≤ length bytes.now }
-    ensures answers { left_out (check_thing (known_in kinds.now) (drop at bytes.now)) ≡ answer_at bytes.now result }
-    ensures inside { place_in result ≤ length bytes.now }
+fn check_thing<'a>(text: &'a [u8], kinds: &[Kept]) -> Result<&'a [u8], Refused<'a>>
+    ensures { left_out (check_thing (known_in kinds.now) text.now) ≡ ended result }
 {
-    let first = check_literal(bytes, at, b"thing ")?;
-    let name = check_name(bytes, first)?;
-    let Some(count) = count_of(kinds, name.word) else {
-        return Err(Refusal {
-            rule: Rule::Name,
-            place: first,
-        });
+    let start = read_literal(text, b"thing ")?;
+    let (name, rest) = read_name(start)?;
+    let Some(count) = count_of(kinds, name) else {
+        return Err(Rule::Name.at(start));
     };
-    let row = check_row(bytes, name.at, bytes.len() - name.at + 1)?;
+    let (row, rest) = check_row(rest, rest.len() + 1)?;
     if row.count != count {
-        return Err(Refusal {
-            rule: Rule::Number,
-            place: at,
-        });
+        return Err(Rule::Number.at(text));
     }
     match row.large {
-        None => Ok(row.at),
-        Some(place) => Err(Refusal {
-            rule: Rule::Number,
-            place,
-        }),
-    }
-}
-
-// The number of a thing that there is.
-fn check_target(bytes: &[u8], at: usize, things: usize) -> Result<usize, Refusal>
-    requires inside { at ≤ length bytes.now }
-    requires few { things ≤ too_large }
-    ensures answers { left_out (check_target things (drop at bytes.now)) ≡ answer_at bytes.now result }
-    ensures inside { place_in result ≤ length bytes.now }
-{
-    match read_number(bytes, at) {
-        Ok(end) => match number_of(&bytes[at..end]) {
-            Some(n) if (n as usize) < things => Ok(end),
-            _ => Err(Refusal {
-                rule: Rule::Number,
-                place: at,
-            }),
-        },
-        Err(place) => Err(Refusal {
-            rule: Rule::Form,
-            place,
-        }),
+        None => Ok(rest),
+        Some(number) => Err(Rule::Number.at(number)),
     }
 }
 
 // A message, where there are so many things.
-fn check_note(bytes: &[u8], at: usize, things: usize) -> Result<usize, Refusal>
-    requires inside { at ≤ length bytes.now }
-    requires few { things ≤ too_large }
-    ensures answers { left_out (check_note things (drop at bytes.now)) ≡ answer_at bytes.now result }
-    ensures inside { place_in result ≤ length bytes.now }
+fn check_note(text: &[u8], things: usize) -> Result<&[u8], Refused<'_>>
+    requires { things ≤ too_large }
+    ensures { left_out (check_note things text.now) ≡ ended result }
 {
-    let first = check_literal(bytes, at, b"message ")?;
-    let time = check_number(bytes, first)?;
-    let space = check_literal(bytes, time, b" ")?;
-    let to = check_target(bytes, space, things)?;
-    let gap = check_literal(bytes, to, b" ")?;
-    let number = check_number(bytes, gap)?;
-    check_literal(bytes, number, b"\n")
+    let rest = read_literal(text, b"message ")?;
+    let rest = check_below(rest, TOO_LARGE)?;
+    let rest = read_literal(rest, b" ")?;
+    let rest = check_below(rest, things)?;
+    let rest = read_literal(rest, b" ")?;
+    let rest = check_below(rest, TOO_LARGE)?;
+    Ok(read_literal(rest, b"\n")?)
 }
 
-// Messages up to the end of the bytes, and how many.
-fn check_notes(bytes: &[u8], at: usize, things: usize) -> Result<usize, Refusal>
-    requires inside { at ≤ length bytes.now }
-    requires few { things ≤ too_large }
-    ensures answers { sized 0 (check_notes things most_notes (drop at bytes.now)) ≡ sized_at bytes.now result }
-    ensures inside { refused_inside bytes.now result }
+// Whether a text begins with a byte.
+fn begins_with(text: &[u8], byte: u8) -> bool
+    ensures { result ≡ first_is (λ b. b == byte) text.now }
 {
-    let mut end = at;
-    let mut count = 0;
-    while end < bytes.len() {
-        if count == NOTES {
-            let rule = if bytes[end] == b'm' {
-                Rule::Limit
-            } else {
-                Rule::Form
-            };
-            return Err(Refusal { rule, place: end });
+    text.first().is_some_and(|first| *first == byte)
+}
+
+// Messages up to the end of the text, and how many.
+fn check_notes(text: &[u8], things: usize) -> Result<usize, Refused<'_>>
+    requires { things ≤ too_large }
+    ensures { map_checked (sized 0) (check_notes things most_notes text.now) ≡ outcome result }
+{
+    let mut rest = text;
+    for count in 0..NOTES {
+        if rest.is_empty() {
+            return Ok(count);
         }
-        end = check_note(bytes, end, things)?;
-        count += 1;
+        rest = check_note(rest, things)?;
     }
-    Ok(count)
+    if rest.is_empty() {
+        return Ok(NOTES);
+    }
+    if begins_with(rest, b'm') {
+        return Err(Rule::Limit.at(rest));
+    }
+    Err(Rule::Form.at(rest))
 }
 
-// The refusal of one thing too many, unless its line has more or fewer numbers than its kind, which comes before.
-fn one_too_many(bytes: &[u8], at: usize, kinds: &[Kept]) -> Refusal
-    requires { at ≤ length bytes.now }
-    ensures answers { excess {B = Text} (drop at bytes.now) (check_thing (known_in kinds.now) (drop at bytes.now)) ≡ refused_at bytes.now result }
-    ensures inside { result.place ≤ length bytes.now }
+// Things up to the messages, the messages up to the end of the text, and how many. One thing too many is refused, unless its line has more or
+// fewer numbers than its kind, which comes before.
+fn check_things<'a>(text: &'a [u8], kinds: &[Kept]) -> Result<Counts, Refused<'a>>
+    ensures { map_checked (amounts 0) (check_things (known_in kinds.now) 0 most_things text.now) ≡ map_checked amounts_of (outcome result) }
 {
-    match check_thing(bytes, at, kinds) {
-        Ok(_) => Refusal {
-            rule: Rule::Limit,
-            place: at,
-        },
-        Err(refusal) => surplus(bytes, at, refusal),
-    }
-}
-
-// Things up to the messages, the messages up to the end of the bytes, and how many.
-fn check_things(bytes: &[u8], at: usize, kinds: &[Kept]) -> Result<Counts, Refusal>
-    requires { at ≤ length bytes.now }
-    ensures answers { amounts 0 (check_things (known_in kinds.now) 0 most_things (drop at bytes.now)) ≡ counts_at bytes.now result }
-    ensures inside { refused_inside bytes.now result }
-{
-    let mut end = at;
-    let mut things = 0;
-    while end < bytes.len() {
-        if bytes[end] != b't' {
-            let notes = check_notes(bytes, end, things)?;
+    let mut rest = text;
+    for things in 0..THINGS {
+        if !begins_with(rest, b't') {
+            let notes = check_notes(rest, things)?;
             return Ok(Counts { things, notes });
         }
-        if things == THINGS {
-            return Err(one_too_many(bytes, end, kinds));
-        }
-        end = check_thing(bytes, end, kinds)?;
-        things += 1;
+        rest = check_thing(rest, kinds)?;
     }
-    Ok(Counts { things, notes: 0 })
+    if begins_with(rest, b't') {
+        return Err(cut_off(rest, 0, check_thing(rest, kinds)));
+    }
+    let notes = check_notes(rest, THINGS)?;
+    let things = THINGS;
+    Ok(Counts { things, notes })
 }
 
-// Kinds up to the things and messages, and these up to the end of the bytes.
-fn check_kinds(bytes: &[u8]) -> Result<Extent, Refusal>
-    ensures answers { sizes 0 0 (check_kinds 4097 [] 4096 bytes.now) ≡ extent_at bytes.now result }
-    ensures inside { refused_inside bytes.now result }
+// Kinds up to the things and messages, and these up to the end of the text. The table is an array, since there is no heap; it is filled by a
+// `while`, since the rest and the lines that are left run along.
+fn check_kinds(text: &[u8]) -> Result<Extent, Refused<'_>>
+    ensures { map_checked (sizes 0 0) (check_kinds 4097 [] 4096 text.now) ≡ map_checked sizes_of (outcome result) }
 {
     let mut table = [Kept { name: 0, count: 0 }; LINES];
-    let mut end = 0;
+    let mut rest = text;
     let mut kinds = 0;
     let mut left = LINES;
-    while end < bytes.len() {
-        if bytes[end] != b'k' {
-            let rest = check_things(bytes, end, &table[..kinds])?;
-            return Ok(Extent {
-                lines: end,
-                kinds,
-                things: rest.things,
-                notes: rest.notes,
-            });
-        }
-        let kind = check_kind(bytes, end, &table[..kinds], left)?;
-        end = kind.at;
-        left = kind.left;
+    while begins_with(rest, b'k') {
+        let ((kind, behind), next) = check_kind(rest, &table[..kinds], left)?;
+        rest = next;
+        left = behind;
         // Each kind takes a line, so that there are never more than lines.
         if kinds == LINES {
-            return Err(Refusal {
-                rule: Rule::Limit,
-                place: end,
-            });
+            return Err(Rule::Limit.at(rest));
         }
-        table[kinds] = kind.kind;
+        table[kinds] = kind;
         kinds += 1;
     }
+    let Counts { things, notes } = check_things(rest, &table[..kinds])?;
     Ok(Extent {
-        lines: end,
+        lines: text.len() - rest.len(),
         kinds,
-        things: 0,
-        notes: 0,
+        things,
+        notes,
     })
+}
+
+// A whole text, which may have 64 MiB.
+fn check_whole(text: &[u8]) -> Result<Extent, Refused<'_>>
+    ensures { map_checked (sizes 0 0) (checked text.now) ≡ map_checked sizes_of (outcome result) }
+{
+    let whole = check_kinds(text);
+    if text.len() <= BYTES {
+        return whole;
+    }
+    Err(cut_off(text, BYTES, whole))
 }
 
 // Whether the bytes are a text that keeps all rules, and how large it is; else the first refusal.
 pub fn check(bytes: &[u8]) -> Result<Extent, Refusal>
     ensures { Answered bytes.now result (checked bytes.now) }
 {
-    let whole = check_kinds(bytes);
-    if bytes.len() <= BYTES {
-        return whole;
-    }
-    match whole {
-        Ok(_) => Err(Refusal {
-            rule: Rule::Limit,
-            place: BYTES,
-        }),
-        Err(refusal) => Err(cut_off(bytes, 0, BYTES, refusal)),
-    }
+    check_whole(bytes).map_err(|refused| refused.within(bytes))
 }

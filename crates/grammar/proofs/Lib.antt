@@ -11,7 +11,7 @@ mod Short
 mod Blocks
 mod Fresh
 mod Rows
-mod Taken
+pub mod Taken
 mod Takes
 pub mod Exact
 mod Faulty
@@ -20,4 +20,4 @@ mod Line
 mod Joined
 mod Within
 mod Rest
-mod Wrong
+pub mod Wrong

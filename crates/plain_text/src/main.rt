@@ -2,7 +2,8 @@
 #![tactic(auto)]
 
 use anyhow::anyhow;
-use checker::{Refusal, number_of, rule_number};
+use checker::Refusal;
+use words::number_of;
 use std::alloc::Global;
 use std::io::{BufWriter, Write};
 use std::{env, fs, io};
@@ -91,7 +92,7 @@ impl Watch for Counter<'_> {
 }
 
 fn refuse(rt: &HostRuntime, refusal: Refusal) -> io::Result<()> {
-    let number = rule_number(refusal.rule);
+    let number = u8::from(refusal.rule);
     let place = refusal.place;
     println!(rt; "refused {number} at {place}")
 }

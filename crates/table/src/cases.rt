@@ -106,7 +106,7 @@ fn find(line: &[u8], wanted: u8) -> usize
 // COUNT:STRING, the bytes of STRING as often as COUNT says.
 fn repeat(heap: Global, out: &mut Vec<u8>, inside: &[u8]) -> Result<(), AllocError> {
     let colon = find(inside, b':');
-    let Some(count) = checker::number_of(&inside[0..colon]) else {
+    let Some(count) = words::number_of(&inside[0..colon]) else {
         return Ok(());
     };
     if colon >= inside.len() {

@@ -5,7 +5,7 @@ mod cases;
 
 use anyhow::anyhow;
 use cases::{Case, Cases, expand};
-use checker::{Refusal, rule_number};
+use checker::Refusal;
 use std::alloc::{AllocError, Global};
 use std::{fs, io};
 use text::play::{Asked, Verdict, Watch, play, settle};
@@ -23,7 +23,7 @@ impl Watch for Quiet {
 }
 
 fn refused(heap: Global, refusal: Refusal) -> Result<String, AllocError> {
-    let number = rule_number(refusal.rule);
+    let number = u8::from(refusal.rule);
     let place = refusal.place;
     format!(in heap; "refused {number} at {place}")
 }
@@ -110,7 +110,7 @@ fn play_models(rt: &HostRuntime, heap: Global) -> anyhow::Result<()> {
         else {
             break;
         };
-        let end = match checker::number_of(expected) {
+        let end = match words::number_of(expected) {
             Some(end) => u64::from(end),
             None => 0,
         };

@@ -582,10 +582,7 @@ pub fn load(bytes: &[u8], lent: &mut Lent<'_>) -> Result<Extent, Refusal>
 {
     let extent = check(bytes)?;
     if !is_roomy(extent, lent) {
-        return Err(Refusal {
-            rule: Rule::Lent,
-            place: 4,
-        });
+        return Err(Rule::Lent.refusal(4));
     }
     let amounts = Amounts {
         kinds: extent.kinds,

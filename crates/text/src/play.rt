@@ -67,10 +67,7 @@ pub fn settle(asked: Asked) -> Result<Settings, Refusal>
 fn not_in_range(place: usize) -> Refusal
     ensures { result ≡ lent place }
 {
-    Refusal {
-        rule: Rule::Lent,
-        place,
-    }
+    Rule::Lent.refusal(place)
 }
 
 // How a text was played: to its end, not to its end, or not at all.

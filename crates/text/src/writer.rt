@@ -406,10 +406,7 @@ pub fn write(model: Model<'_>, out: &mut [u8]) -> Result<usize, Refusal>
 {
     let limit = out.len();
     match write_text(model, &mut [], limit) {
-        None => Err(Refusal {
-            rule: Rule::Lent,
-            place: 4,
-        }),
+        None => Err(Rule::Lent.refusal(4)),
         Some(n) => {
             write_text(model, out, limit);
             Ok(n)

@@ -1,5 +1,5 @@
 -- Packed words: they fit 64 bits, differ where words do, and come back unpacked.
-use Rattle.std.proofs.Common.{◌≡◌, ℕ, zero, suc, ◌+◌, ◌*◌, ◌/◌, ◌%◌, ◌<◌, ◌≤◌, Bool, true, false, not, cond, eqb, leb, ◌⊎◌, List, [], ◌∷◌, length, get_or, codes, sym, refl, ap, ◌∙◌, ap₂, subst, inl, inr, arith}
+use Rattle.std.proofs.Common.{◌≡◌, ℕ, zero, suc, ◌+◌, ◌*◌, ◌/◌, ◌%◌, ◌<◌, ◌≤◌, Bool, true, false, not, cond, eqb, leb, ◌⊎◌, List, [], ◌∷◌, length, codes, sym, refl, ap, ◌∙◌, ap₂, subst, inl, inr, arith}
 use Rattle.std.proofs.lemmas.Nat.{div-add-mod', div-mul-add, mod-mul-add, div_below}
 use Rattle.std.proofs.lemmas.Bool.{eq-eqb, ne_eqb, cases_eq, eqb-true, eqb-false, both_ways, and_parts, and_from, leb-true, or_cases, cond_both, or_from, or_left, not_from_false, cond-true, cond-false, cases_Bool}
 use Rattle.grammar.specs.Syntax.{all, same, in_word, is_letter, is_digit, among, reserved, is_word, is_name, is_operand}
@@ -19,19 +19,6 @@ use Rattle.words.specs.Words.{pack, unpack, unpack_upto, word_by, word_of, spell
 abbrev most : ℕ → ℕ
 most zero = 1
 most (suc n) = 256 * most n
-
-bound : (n : ℕ) (ws : List ℕ) → length ws ≤ n → ((i : ℕ) → get_or ws i 0 < 256) → pack ws < most n
-unfolding pack
-bound zero [] h k = omega arith
-bound (suc n) [] h k = let p = bound n [] (omega arith) k in omega arith
-bound zero (b ∷ ws) h k = absurd (omega arith)
-bound (suc n) (b ∷ ws) h k =
-    let p : pack ws < most n = bound n ws (omega arith) (λ i. k (suc i)) in
-    let q : b < 256 = k 0 in
-    omega arith
-
-pub pack_fits : (ws : List ℕ) → length ws ≤ 8 → ((i : ℕ) → get_or ws i 0 < 256) → pack ws < 18446744073709551616
-pack_fits ws h b = bound 8 ws h b
 
 -- The bytes of words lie between 48 and 122.
 pub in_range : (b : ℕ) → in_word b ≡ true → (48 ≤ b) × (b ≤ 122)
@@ -238,13 +225,8 @@ read_back bs k r e = go (read_word bs) refl e
         let s : w ≡ spelling k = sym (spelled_again w good) ∙ ap spelling h in
         (f ∙ ap₂ got s q, ap is_name (sym s) ∙ name_named w good ∙ ap named h, sym h ∙ ap word_of s)
 
--- What was read in other words, and was not.
-pub read_not : {A B : Type 0} (f : A → B) (g : Got A) (r : List ℕ) → map_got f g ≡ bad r → g ≡ bad r
-read_not f (got a c) r e = absurd (let z : ◌≡◌ {A = ℕ} 0 1 = cc in omega arith)
-read_not f (bad c) r e = let h : c ≡ r = cc in ap bad h
-
 -- What is read as a name is that name packed.
-named_is : (q p : ℕ) → word_by q ≡ Name p → q ≡ p
+pub named_is : (q p : ℕ) → word_by q ≡ Name p → q ≡ p
 named_is q p e = go (word_by q) (spelled q) e
   where
     go : (k : Word) → Spelled q k → k ≡ Name p → q ≡ p

@@ -231,8 +231,8 @@ pub fn read_sign<'a>(text: &'a [u8]) -> Read<'a, Sign>
     let Some((b, rest)) = text.split_first() else {
         return Err(text);
     };
-    match sign_by(*b) {
-        Some(sign) => Ok((sign, rest)),
-        None => Err(text),
-    }
+    let Some(sign) = sign_by(*b) else {
+        return Err(text);
+    };
+    Ok((sign, rest))
 }

@@ -7,12 +7,12 @@ use Rattle.words.proofs.read_sign.Goals as goal
 pub returns-in_default : goal.returns-in_default
 returns-in_default c = sign_none c.args.text.now c.in_default.ensures.cases
 
-pub returns-in-Some-sign_by : goal.returns-in-Some-sign_by
-returns-in-Some-sign_by c =
+pub returns : goal.returns
+returns c =
     ap read_sign c.in-Some.ensures.cases.0 ∙ sign_front c.in-Some.b.now c.in-Some.rest.now
     ∙ ap (λ s. map_got sign_of (signed s (c.in-Some.b.now ∷ c.in-Some.rest.now) c.in-Some.rest.now)) (sym c.in-Some-sign_by.ensures)
 
-pub returns-in-None : goal.returns-in-None
-returns-in-None c =
+pub returns-in_default-sign_by : goal.returns-in_default-sign_by
+returns-in_default-sign_by c =
     ap read_sign c.in-Some.ensures.cases.0 ∙ sign_front c.in-Some.b.now c.in-Some.rest.now
-    ∙ ap (λ s. map_got sign_of (signed s (c.in-Some.b.now ∷ c.in-Some.rest.now) c.in-Some.rest.now)) (sym c.in-None.ensures) ∙ ap bad (sym c.in-Some.ensures.cases.0)
+    ∙ ap (λ s. map_got sign_of (signed s (c.in-Some.b.now ∷ c.in-Some.rest.now) c.in-Some.rest.now)) (sym c.in_default-sign_by.ensures) ∙ ap bad (sym c.in-Some.ensures.cases.0)

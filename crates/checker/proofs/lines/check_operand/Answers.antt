@@ -1,49 +1,23 @@
-use Rattle.std.proofs.Common.{true, false, drop, sym, ap, ◌∙◌}
-use Rattle.grammar.specs.Parse.{read_word}
-use Rattle.checker.specs.Places.{span}
-use Rattle.checker.specs.Refusals.{names_in}
-use Rattle.checker.specs.Words.{word_by, unpack, stands_for_number}
-use Rattle.grammar.specs.Syntax.{among}
-use Rattle.checker.proofs.CheckTerms.{read_so, operand_own, operand_name, operand_none, no_number}
+use Rattle.std.proofs.Common.{true, false, sym, refl, ap, ◌∙◌, arith}
+use Rattle.checker.specs.Refusals.{names_in, refused_by}
+use Rattle.checker.proofs.Terms.{operand_own, operand_name, operand_none}
 use Rattle.checker.proofs.lines.check_operand.Goals as goal
 
 pub returns-in-It : goal.returns-in-It
-returns-in-It c =
-    let bs = c.args.bytes.now in
-    let w = span bs c.args.at c.in_ok-end.end in
-    let e = read_so (read_word (drop c.args.at bs)) w (drop c.in_ok-end.end bs) c.in_ok-end.ensures.answers in
-    record {
-      answers = operand_own (names_in c.args.names.now) (drop c.args.at bs) w (drop c.in_ok-end.end bs) e c.word_by.result (c.word_by.ensures ∙ ap word_by c.packed-word.ensures) c.in-It.is;
-      inside = c.in_ok-end.ensures.inside;
-    }
+returns-in-It c = operand_own (names_in c.args.names.now) c.args.text.now c.in_ok-word.word c.in_ok-word.rest.now c.in_ok-word.ensures c.in-It.is
 
-pub returns-then-is_known : goal.returns-then-is_known
-returns-then-is_known c =
-    let bs = c.args.bytes.now in
-    let w = span bs c.args.at c.in_ok-end.end in
-    let e = read_so (read_word (drop c.args.at bs)) w (drop c.in_ok-end.end bs) c.in_ok-end.ensures.answers in
-    record {
-      answers = operand_name (names_in c.args.names.now) (drop c.args.at bs) w (drop c.in_ok-end.end bs) e true (sym (c.in-Name.ensures ∙ ap word_by c.packed-word.ensures)) (c.if-is_known.ensures ∙ ap (λ p. among (unpack p) (names_in c.args.names.now)) c.packed-word.ensures);
-      inside = c.in_ok-end.ensures.inside;
-    }
+pub returns-then-contains : goal.returns-then-contains
+returns-then-contains c =
+    operand_name (names_in c.args.names.now) c.args.text.now c.in_ok-word.word c.in_ok-word.rest.now c.in_ok-word.ensures c.in-Name.name c.args.names.now refl (λ i. omega (arith, c.type_inv.names i)) c.in-Name.is
+    true c.if-contains.ensures.value
 
-pub returns-else-is_known : goal.returns-else-is_known
-returns-else-is_known c =
-    let bs = c.args.bytes.now in
-    let w = span bs c.args.at c.in_ok-end.end in
-    let e = read_so (read_word (drop c.args.at bs)) w (drop c.in_ok-end.end bs) c.in_ok-end.ensures.answers in
-    record {
-      answers = operand_name (names_in c.args.names.now) (drop c.args.at bs) w (drop c.in_ok-end.end bs) e false (sym (c.in-Name.ensures ∙ ap word_by c.packed-word.ensures)) (c.if-is_known.ensures ∙ ap (λ p. among (unpack p) (names_in c.args.names.now)) c.packed-word.ensures);
-      inside = c.requires;
-    }
+pub returns-else-contains : goal.returns-else-contains
+returns-else-contains c =
+    operand_name (names_in c.args.names.now) c.args.text.now c.in_ok-word.word c.in_ok-word.rest.now c.in_ok-word.ensures c.in-Name.name c.args.names.now refl (λ i. omega (arith, c.type_inv.names i)) c.in-Name.is
+    false c.if-contains.ensures.value
+    ∙ ap (λ f. refused_by {A = Unit {0}} f) (sym c.at.ensures)
 
 pub returns-in_default : goal.returns-in_default
 returns-in_default c =
-    let bs = c.args.bytes.now in
-    let w = span bs c.args.at c.in_ok-end.end in
-    let e = read_so (read_word (drop c.args.at bs)) w (drop c.in_ok-end.end bs) c.in_ok-end.ensures.answers in
-    record {
-      answers = operand_none (names_in c.args.names.now) (drop c.args.at bs) w (drop c.in_ok-end.end bs) e
-          (ap stands_for_number (sym (c.word_by.ensures ∙ ap word_by c.packed-word.ensures)) ∙ no_number c.word_by.result c.in_default.not-It c.in_default.not-Me c.in_default.not-Now c.in_default.not-Name);
-      inside = c.in_ok-end.ensures.inside;
-    }
+    operand_none (names_in c.args.names.now) c.args.text.now c.in_ok-word.word c.in_ok-word.rest.now c.in_ok-word.ensures c.in_default.not-It c.in_default.not-Me c.in_default.not-Now c.in_default.not-Name
+    ∙ ap (λ f. refused_by {A = Unit {0}} f) (sym c.at-in_default.ensures)

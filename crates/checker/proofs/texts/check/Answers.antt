@@ -1,12 +1,11 @@
-use Rattle.std.proofs.Common.{refl}
-use Rattle.checker.proofs.CheckTexts.{short_text, long_text, long_text_refused}
+use Rattle.std.proofs.Common.{◌≡◌, subst, rules}
+use Rattle.grammar.specs.Check.{check}
+use Rattle.checker.specs.Texts.{Answered}
+use Rattle.checker.proofs.Wholes.{placed, placed_by, answered}
 use Rattle.checker.proofs.texts.check.Goals as goal
 
-pub returns-then-bytes-le-BYTES : goal.returns-then-bytes-le-BYTES
-returns-then-bytes-le-BYTES c = short_text c.args.bytes.now c.check_kinds-whole.result c.if-bytes-le-BYTES.true c.check_kinds-whole.ensures.answers c.check_kinds-whole.ensures.inside
-
-pub returns-in-Ok : goal.returns-in-Ok
-returns-in-Ok c = long_text c.args.bytes.now c.in-Ok.field-0 _ c.if-bytes-le-BYTES.false c.in-Ok.ensures.answers refl
-
-pub returns-in-Err : goal.returns-in-Err
-returns-in-Err c = long_text_refused c.args.bytes.now c.in-Err.refusal c.cut_off.result c.if-bytes-le-BYTES.false c.in-Err.ensures.answers c.cut_off.ensures.answers c.cut_off.ensures.inside
+pub returns : goal.returns
+returns c =
+    let bs = c.args.bytes.now in
+    let e : placed bs c.check_whole.result ≡ c.map_err.result = placed_by _ bs c.check_whole.result c.map_err.result c.map_err.ensures.cases (λ y f h. search rules) in
+    subst (λ r. Answered bs r (check bs)) e (answered bs c.check_whole.result c.check_whole.ensures)

@@ -1,5 +1,5 @@
-use Rattle.std.proofs.Common.{sym}
-use Rattle.text.specs.Loaded.{slices_in}
+use Rattle.std.proofs.Common.{Err, sym, subst}
+use Rattle.text.specs.Loaded.{Loaded, slices_in}
 use Rattle.text.proofs.Loads.{text_of, kinds_few, things_few, too_short, takes}
 use Rattle.text.proofs.loader.load.Goals as goal
 
@@ -13,7 +13,8 @@ is_roomy-requires-clause-things c =
 
 pub returns-then-not-is_roomy-clause-is : goal.returns-then-not-is_roomy-clause-is
 returns-then-not-is_roomy-clause-is c =
-    too_short c.args.bytes.now c.in_ok-extent.extent (slices_in c.args.lent.now) (text_of c.args.bytes.now c.in_ok-extent.extent c.in_ok-extent.ensures) c.if-not-is_roomy.ensures
+    subst (λ f. Loaded c.args.bytes.now (slices_in c.args.lent.now) (slices_in c.args.lent.now) (Err f)) (sym c.refusal.ensures)
+    (too_short c.args.bytes.now c.in_ok-extent.extent (slices_in c.args.lent.now) (text_of c.args.bytes.now c.in_ok-extent.extent c.in_ok-extent.ensures) c.if-not-is_roomy.ensures)
 
 pub returns-clause-is : goal.returns-clause-is
 returns-clause-is c =
