@@ -1,10 +1,7 @@
 -- Numbers and names in rows.
 use Rattle.std.proofs.Common.{◌≡◌, ℕ, zero, suc, ◌+◌, ◌-◌, ◌≤◌, Bool, true, false, ◌&&◌, List, [], ◌∷◌, ◌++◌, map, length, get_or, take, drop, replicate, sym, refl, ap, ◌∙◌, append_assoc, arith}
 use Rattle.std.proofs.lemmas.Bool.{and_parts, and_from}
-use Rattle.grammar.specs.Syntax.{in_word, is_number, is_name, every, show_row}
-use Rattle.grammar.specs.Check.{decimal}
-use Rattle.grammar.specs.Rules.{small}
-use Rattle.words.specs.Words.{pack}
+use Rattle.grammar.specs.Syntax.{in_word, every, show_row}
 use Rattle.text.specs.Slices.{row}
 use Rattle.text.specs.Writes.{Row, writes}
 use Rattle.text.specs.Parts.{ReadAt}

@@ -2,7 +2,7 @@
 use Rattle.std.specs.Prelude.{◌≡◌, ℕ, zero, suc, ◌+◌, ◌*◌, ◌<◌, ◌≤◌, Bool, true, false, ◌&&◌, List, [], ◌∷◌, ◌++◌, map, length, drop, codes, nat_le, slice_index}
 use Rattle.meaning.specs.declared.Message.{Message}
 use Rattle.body.specs.declared.Process.{Process}
-use Rattle.grammar.specs.Syntax.{is_name, is_number, every, Kind, Thing, Note, show_row, show_lines, show_kinds, show_things, show_notes, spelled_kind, spelled_thing, spelled_note}
+use Rattle.grammar.specs.Syntax.{every, Kind, Thing, Note, show_row, show_lines, show_kinds, show_things, show_notes, spelled_kind, spelled_thing, spelled_note}
 use Rattle.grammar.specs.Check.{decimal}
 use Rattle.grammar.specs.Rules.{small, right_note, right_kind}
 use Rattle.words.specs.Words.{pack}

@@ -11,11 +11,11 @@ ghost use Rattle.text.specs.Slots.{row_in};
 ghost use Rattle.text.specs.Parts.{place_of, WordAt, NameAt, NumberAt, TermAt, OperandAt, sign_word, PlainAt, ExprAt, HeadAt, SayAt, SendAt, DrawAt, PutAt, SimpleAt, LinesAt, BranchAt, RepeatAt, between};
 ghost use Rattle.text.specs.Tables.{NoteAt, NotesAt, RowAt, firsts, ThingsAt, KindAt, KindsAt};
 
+use super::entries::{Entry, nth, position_of};
 use body::{Act, Binary, ExprOp, LineOp, Process, skip};
 use checker::{Extent, Refusal, Rule, check};
 use meaning::Message;
 use words::Word;
-use super::entries::{Entry, nth, position_of};
 
 // The lent slices that a model is read into: words, where each kind's words begin, names, processes with their variables, and messages.
 #[derive(Drop)]

@@ -9,10 +9,10 @@ ghost use Rattle.body.specs.declared.LineOp.TheVariants.{Do, Branch, Repeat};
 ghost use Rattle.grammar.specs.Syntax.{sign_byte, show_row, show_kinds, show_things, show_notes};
 ghost use Rattle.text.specs.Slices.{names_of, held_note};
 
+use super::entries::{Entry, first, nth, position_of};
 use body::{Act, Binary, ExprOp, LineOp, Process, skip};
 use checker::{Refusal, Rule};
 use meaning::Message;
-use super::entries::{Entry, first, nth, position_of};
 
 // A model as lent slices hold it: words, where each kind's words begin, names, processes with their variables, and messages.
 #[derive(Clone, Copy)]
