@@ -3,11 +3,11 @@
 
 use anyhow::anyhow;
 use checker::Refusal;
-use words::number_of;
 use std::alloc::Global;
 use std::io::{BufWriter, Write};
 use std::{env, fs, io};
 use text::play::{Asked, Verdict, Watch, play, settle};
+use words::number_of;
 
 const USAGE: &str = "usage: plain_text TEXT LUCK END R [progress]
   TEXT      a file with the text of a model
