@@ -11,7 +11,6 @@ use Rattle.text.specs.Named.{index_of, expr, body}
 use Rattle.text.specs.Writes.{Row, row_of, writes}
 use Rattle.text.specs.Parts.{Packed, WordAt, HeadAt, SimpleAt, LinesAt, BranchAt, RepeatAt, branch_words, repeat_words, Wrote, Room, closing, between}
 use Rattle.text.proofs.Rows.{writes_on, room_on, branch_rows, repeat_rows}
-use Rattle.text.proofs.FillTerms.{first_byte}
 use Rattle.text.proofs.Firsts.{First, by_end, by_else, assigns, draws, says, sends, whens, chooses, agains, first_is, name_word, show_assign, show_draw, show_say, show_send, show_when, show_choose, show_again}
 
 pub lines_none : (ps : List ℕ) (bs : List ℕ) (most : ℕ) (r : Row ℕ) (bs' : List ℕ) (r' : Row ℕ) → most ≡ 0 → LinesAt bs ps most r bs' r'
@@ -174,10 +173,10 @@ module _ (ps : List ℕ) where
         ∙ ap (λ x. writes (5 ∷ x ∷ n' ∷ E ++ B ++ C) r) mm ∙ ap (λ x. writes (5 ∷ length B ∷ x ∷ E ++ B ++ C) r) nn
 
     -- A branch with an else, by the second byte of what closes its first lines.
-    pub branch_else : (bs_l : List ℕ) → bs_l ≡ drop 1 bs5 → get_or bs_l 0 0 ≡ 108 → (bs7 bs8 : List ℕ) (r7 : Row ℕ) (n' : ℕ) (r8 : Row ℕ) (bs9 : List ℕ) → bs7 ≡ drop 5 bs5 →
+    pub branch_else : get_or bs5 1 0 ≡ 108 → (bs7 bs8 : List ℕ) (r7 : Row ℕ) (n' : ℕ) (r8 : Row ℕ) (bs9 : List ℕ) → bs7 ≡ drop 5 bs5 →
         LinesAt bs7 ps most r6 bs8 r7 → n' ≡ between r5.used r7.used → r8 ≡ row_of r7.used (set r7.items r2.used n') → bs9 ≡ drop 4 bs8 →
         BranchAt bs1 ps most r bs9 r8
-    branch_else bs_l el hl bs7 bs8 r7 n' r8 bs9 e7 z2 en e8 e9 =
+    branch_else hl bs7 bs8 r7 n' r8 bs9 e7 z2 en e8 e9 =
         record {
           whens =
               λ ns t b k pk e st sb gt gb l room.
@@ -186,7 +185,7 @@ module _ (ps : List ℕ) where
               let i = length-append (E ++ B) (0 ∷ []) in
               let j = length-append E B in
               let q = one ns t b false k 1 pk e st sb gt gb l (omega arith) (omega arith) in
-              let w = first_byte (codes "d" ++ 10 ∷ k) bs_l 110 (el ∙ ap (drop 1) q.0) in
+              let w : get_or bs5 1 0 ≡ 110 = ap (λ x. get_or x 1 0) q.0 in
               absurd (omega arith));
           chooses =
               λ ns t b d k pk e st sb sd gt gb gd l l' room.
@@ -203,9 +202,9 @@ module _ (ps : List ℕ) where
         }
 
     -- A branch with none.
-    pub branch_none : (bs_l : List ℕ) → bs_l ≡ drop 1 bs5 → (get_or bs_l 0 0 ≡ 108 → ⊥) → (r7 r8 : Row ℕ) (bs9 : List ℕ) → r7 ≡ writes (0 ∷ []) r6 →
+    pub branch_none : (get_or bs5 1 0 ≡ 108 → ⊥) → (r7 r8 : Row ℕ) (bs9 : List ℕ) → r7 ≡ writes (0 ∷ []) r6 →
         r8 ≡ row_of r7.used (set r7.items r2.used 1) → bs9 ≡ drop 4 bs5 → BranchAt bs1 ps most r bs9 r8
-    branch_none bs_l el hl r7 r8 bs9 e7 e8 e9 =
+    branch_none hl r7 r8 bs9 e7 e8 e9 =
         record {
           whens =
               λ ns t b k pk e st sb gt gb l room.
@@ -223,7 +222,7 @@ module _ (ps : List ℕ) where
               let i = length-append (E ++ B) C in
               let j = length-append E B in
               let q = one ns t b true (show_lines d ++ closing false k) (length C) pk e st sb gt gb l (omega arith) (omega arith) in
-              absurd (hl (first_byte (codes "se" ++ 10 ∷ (show_lines d ++ closing false k)) bs_l 108 (el ∙ ap (drop 1) q.0))));
+              absurd (hl (ap (λ x. get_or x 1 0) q.0)));
         }
 
   -- A branch, and the lines behind it.

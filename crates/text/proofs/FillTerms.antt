@@ -1,6 +1,6 @@
 -- The words of expressions.
 use Rattle.std.proofs.Common.{◌≡◌, ℕ, suc, ◌+◌, ◌-◌, ◌<◌, ◌≤◌, Bool, true, false, cond, not, eqb, List, [], ◌∷◌, ◌++◌, map, length, get_or, drop, set, codes, sym, refl, ap, ◌∙◌, subst, append_assoc, arith, length-append}
-use Rattle.std.proofs.lemmas.Bool.{both_ways, and_parts, cond-false, eq-eqb, ne_eqb}
+use Rattle.std.proofs.lemmas.Bool.{both_ways, and_parts, and_from, cond-false, eq-eqb, ne_eqb}
 use Rattle.meaning.specs.Model.{Expr, var, it, me, clock}
 use Rattle.body.specs.Encode.{encode_expr}
 use Rattle.grammar.specs.Syntax as text
@@ -182,7 +182,7 @@ module _ (ps : List ℕ) (bs bs' : List ℕ) (r r' : Row ℕ) where
     where
       go : (t : Term) → bs ≡ show_term t ++ b ∷ k → spelled_term t ≡ true → right_term ns t ≡ true → Begins t (get_or bs 0 0) →
           (bs' ≡ b ∷ k) × (r' ≡ writes (encode_expr (expr ns t)) r)
-      go (number ds) e s g z = let w = f ds k b e s g n in (w.1, q ∙ ap (λ x. writes (0 ∷ x ∷ []) r) w.0)
+      go (number ds) e s g z = let w = f ds k b e (and_from (is_number ds) _ s g) n in (w.1, q ∙ ap (λ x. writes (0 ∷ x ∷ []) r) w.0)
       go (word w) e s g (letter v z) = absurd (both_ways (is_letter (get_or bs 0 0)) (digit_no_letter (get_or bs 0 0) d) z)
       go (two s t u) e h g z = absurd (opens z d)
         where

@@ -58,21 +58,21 @@ name_packed (b ∷ w) h =
     ne_eqb (b + 256 * pack w) 0 (λ e. omega arith)
 
 -- The names of a row.
-names_held : (n : ℕ) (ws : List (List ℕ)) → every is_name ws ≡ true → length ws ≤ n → names_of (padded n (map pack ws)) ≡ ws
+names_held : (n : ℕ) (ws : List (List ℕ)) → every is_name ws ≡ true → length ws ≤ n → names_of (padded 0 n (map pack ws)) ≡ ws
 unfolding names_of padded every
 names_held zero [] h l = refl
 names_held (suc n) [] h l = refl
 names_held zero (w ∷ ws) h l = absurd (omega arith)
 names_held (suc n) (w ∷ ws) h l =
     let p = and_parts (is_name w) (every is_name ws) h in
-    cond-false (eqb (pack w) 0) [] (unpack (pack w) ∷ names_of (padded n (map pack ws))) (name_packed w p.0)
-    ∙ ap (λ x. x ∷ names_of (padded n (map pack ws))) (name_unpacked w p.0) ∙ ap (λ x. w ∷ x) (names_held n ws p.1 (omega arith))
+    cond-false (eqb (pack w) 0) [] (unpack (pack w) ∷ names_of (padded 0 n (map pack ws))) (name_packed w p.0)
+    ∙ ap (λ x. x ∷ names_of (padded 0 n (map pack ws))) (name_unpacked w p.0) ∙ ap (λ x. w ∷ x) (names_held n ws p.1 (omega arith))
 
 row_names : (p : ℕ) (ws : List (List ℕ)) (rest : List ℕ) → every is_name ws ≡ true → length ws ≤ 64 → names_of (take 64 (drop 1 (row 65 (p ∷ map pack ws) ++ rest))) ≡ ws
 unfolding padded
 row_names p ws rest h l =
     ap (λ x. names_of (take 64 (drop 1 (x ++ rest)))) (sym (padded_row 65 (p ∷ map pack ws)))
-    ∙ ap names_of (take_at (padded 64 (map pack ws)) rest 64 (padded_length 64 (map pack ws))) ∙ names_held 64 ws h l
+    ∙ ap names_of (take_at (padded 0 64 (map pack ws)) rest 64 (padded_length 64 (map pack ws))) ∙ names_held 64 ws h l
 
 row_name : (p : ℕ) (ps rest : List ℕ) → get_or (row 65 (p ∷ ps) ++ rest) 0 0 ≡ p
 unfolding padded

@@ -2,10 +2,12 @@
 use Rattle.std.proofs.Common.{◌≡◌, ℕ, suc, ◌≤◌, cond, eqb, ltb, List, ◌∷◌, length, Some, None, one-add, sym, refl, ap, ◌∙◌, arith}
 use Rattle.std.specs.Prelude.{unwrap_or}
 use Rattle.std.specs.List.{position, position_or_len}
-use Rattle.std.proofs.lemmas.Bool.{cond-true}
+use Rattle.std.proofs.lemmas.Bool.{cond-true, and_parts}
 use Rattle.std.proofs.lemmas.Bool.Decides.{nat_tests}
 use Rattle.std.proofs.lemmas.List.Sums.{prefix_len-le-length}
 use Rattle.std.proofs.lemmas.List.Recursion.{is_position_or_len}
+use Rattle.grammar.specs.Syntax.{is_number}
+use Rattle.grammar.specs.Rules.{small}
 use Rattle.grammar.specs.Parse.{got, bad, read_word, read_number, read_name}
 use Rattle.grammar.specs.Check.{decimal, too_large}
 use Rattle.grammar.proofs.Words.{word_full, name_full, number_full}
@@ -39,14 +41,17 @@ module _ (bs bs' : List ℕ) where
       absurd (not_bad (pack w) (b ∷ k) r (sym q ∙ ap (λ x. map_got pack (read_name x)) e ∙ ap (map_got pack) (name_full w (b ∷ k) h n)))
 
   pub number_is : (m : ℕ) (ds : List ℕ) → read_number bs ≡ got ds bs' → m ≡ unwrap_or (small_number ds) 0 → NumberAt bs m bs'
-  number_is m ds q u es k b e h s n =
+  number_is m ds q u es k b e hs n =
+      let s = (and_parts (is_number es) (small es) hs).1 in
+      let h = (and_parts (is_number es) (small es) hs).0 in
       let g = got_parts ds es bs' (b ∷ k) (sym q ∙ ap read_number e ∙ number_full es (b ∷ k) h n) in (
         u ∙ ap (λ x. unwrap_or (small_number x) 0) g.0 ∙ ap (λ x. unwrap_or x 0) (cond-true (ltb (decimal 0 es) too_large) (Some (decimal 0 es)) None s),
         g.1,
       )
 
   pub number_not : (m : ℕ) (r : List ℕ) → read_number bs ≡ bad r → NumberAt bs m bs'
-  number_not m r q es k b e h s n = absurd (not_bad es (b ∷ k) r (sym q ∙ ap read_number e ∙ number_full es (b ∷ k) h n))
+  number_not m r q es k b e h n =
+      absurd (not_bad es (b ∷ k) r (sym q ∙ ap read_number e ∙ number_full es (b ∷ k) (and_parts (is_number es) (small es) h).0 n))
 
 -- The place of a packed word is the first that is it.
 eqb_swap : (a b : ℕ) → eqb a b ≡ eqb b a

@@ -1,6 +1,6 @@
 -- Messages, one after the other.
 use Rattle.std.proofs.Common.{◌≡◌, ℕ, suc, ◌+◌, ◌%◌, ◌<◌, ◌≤◌, true, ◌&&◌, ltb, List, [], ◌∷◌, ◌++◌, map, length, drop, sym, refl, ap, ◌∙◌, subst, mod-eq_of_lt, add-one, arith}
-use Rattle.std.proofs.lemmas.Bool.{and_parts, ltb-true, lt-ltb}
+use Rattle.std.proofs.lemmas.Bool.{and_parts, and_from, ltb-true, lt-ltb}
 use Rattle.std.proofs.lemmas.List.{nil_from_length}
 use Rattle.meaning.specs.declared.Message.{Message}
 use Rattle.grammar.specs.Syntax.{is_number, every, Note, show_notes, spelled_note}
@@ -16,9 +16,9 @@ pub note_by : (bs bs1 : List ℕ) (time : ℕ) (bs2 bs3 : List ℕ) (to : ℕ) (
 note_by bs bs1 time bs2 bs3 to bs4 bs5 number bs6 bs7 e1 n1 e3 n2 e5 n3 e7 n k e s h1 h2 h3 =
     let sp = and_parts (is_number n.time) (is_number n.to && is_number n.number) s in
     let sq = and_parts (is_number n.to) (is_number n.number) sp.1 in
-    let a = n1 n.time (n.to ++ 32 ∷ (n.number ++ 10 ∷ k)) 32 (e1 ∙ ap (drop 8) e) sp.0 h1 refl in
-    let b = n2 n.to (n.number ++ 10 ∷ k) 32 (e3 ∙ ap (drop 1) a.1) sq.0 h2 refl in
-    let c = n3 n.number k 10 (e5 ∙ ap (drop 1) b.1) sq.1 h3 refl in
+    let a = n1 n.time (n.to ++ 32 ∷ (n.number ++ 10 ∷ k)) 32 (e1 ∙ ap (drop 8) e) (and_from (is_number n.time) _ sp.0 h1) refl in
+    let b = n2 n.to (n.number ++ 10 ∷ k) 32 (e3 ∙ ap (drop 1) a.1) (and_from (is_number n.to) _ sq.0 h2) refl in
+    let c = n3 n.number k 10 (e5 ∙ ap (drop 1) b.1) (and_from (is_number n.number) _ sq.1 h3) refl in
     record { time_is = a.0; to_is = b.0; number_is = c.0; goes_on = e7 ∙ ap (drop 1) c.1 }
 
 -- The messages that are still to be read.

@@ -9,12 +9,12 @@ use Rattle.grammar.specs.Rules.{small}
 use Rattle.text.specs.Named.{index_of}
 use Rattle.text.specs.Slices.{var_rows}
 use Rattle.text.specs.Writes.{Row, row_of, writes}
-use Rattle.text.specs.Parts.{place_of, Packed, NameAt}
-use Rattle.text.specs.Tables.{firsts, padded, NumbersAt, fit_thing, process_in}
+use Rattle.text.specs.Parts.{place_of, Packed, NameAt, is_small}
+use Rattle.text.specs.Tables.{firsts, padded, RowAt, fit_thing, process_in}
 use Rattle.text.proofs.Rows.{writes_on}
 use Rattle.text.proofs.FillTerms.{packed_place}
 use Rattle.text.proofs.Firsts.{name_word}
-use Rattle.text.proofs.Lists.{padded_row, row_next}
+use Rattle.text.proofs.Lists.{padded_row, row_next, every_both}
 
 -- The place of a kind, step by step.
 module _ (p n j : ℕ) (ps ps' : List ℕ) (h : j < n) where
@@ -62,7 +62,7 @@ process kind width = record { kind = kind; width = width; seed = 0; sent = 0 }
 
 pub things_more : (bs : List ℕ) (i count : ℕ) (ks : List (List ℕ)) (xs : List Thing) (k : List ℕ) (r r0 : Row Process) (v v0 : Row ℕ) (kinds : ℕ) (ps : List ℕ)
     (bs1 : List ℕ) (p : ℕ) (bs2 bs3 : List ℕ) (width : ℕ) (v' : Row ℕ) (place : ℕ) (r' : Row Process) (bs4 : List ℕ) → Packed ks (firsts kinds ps) → kinds < 4294967296 → i < count →
-    bs1 ≡ drop 6 bs → NameAt bs1 p bs2 → NumbersAt bs2 64 v bs3 width v' → place ≡ place_of p (firsts kinds ps) → place ≤ kinds →
+    bs1 ≡ drop 6 bs → NameAt bs1 p bs2 → RowAt is_small (decimal 0) 0 bs2 64 v bs3 width v' → place ≡ place_of p (firsts kinds ps) → place ≤ kinds →
     r' ≡ writes (process (place % 4294967296) width ∷ []) r → bs4 ≡ drop 1 bs3 →
     ThingsLeft bs i count ks xs k r r0 v v0 → ThingsLeft bs4 (i + 1) count ks xs k r' r0 v' v0
 unfolding every var_rows writes
@@ -80,7 +80,7 @@ things_more bs i count ks xs k r r0 v v0 kinds ps bs1 p bs2 bs3 width v' place r
         let o = row_next x.numbers (show_things todo ++ k) in
         let a = e1 ∙ ap (drop 6) (e ∙ show_thing x todo k) in
         let w = f x.kind o.1 o.0 (a ∙ ap (λ y. x.kind ++ y) o.2) sq.0 o.3 in
-        let z = g x.numbers (show_things todo ++ k) (w.1 ∙ sym o.2) sq.1 tq.1 (leb-true (length x.numbers) 64 tq.0) in
+        let z = g x.numbers (show_things todo ++ k) (w.1 ∙ sym o.2) (every_both is_number small x.numbers sq.1 tq.1) (leb-true (length x.numbers) 64 tq.0) in
         let kind_is : place % 4294967296 ≡ index_of x.kind ks = mod-eq_of_lt (omega arith) ∙ ep ∙ packed_place ks (firsts kinds ps) x.kind p pk w.0 (name_word x.kind sq.0) in
         let width_is : width ≡ length x.numbers = z.width_is ∙ length-map x.numbers (decimal 0) in
         record {
@@ -93,7 +93,7 @@ things_more bs i count ks xs k r r0 v v0 kinds ps bs1 p bs2 bs3 width v' place r
               ap (writes (map (process_in ks) todo))
               (er ∙ ap (λ y. writes (process y width ∷ []) r) kind_is ∙ ap (λ y. writes (process (index_of x.kind ks) y ∷ []) r) width_is) ∙ q;
           same_vars =
-              ap (writes (var_rows todo)) z.written ∙ sym (writes_on (padded 64 (map (decimal 0) x.numbers)) (var_rows todo) v)
+              ap (writes (var_rows todo)) z.written ∙ sym (writes_on (padded 0 64 (map (decimal 0) x.numbers)) (var_rows todo) v)
               ∙ ap (λ y. writes (y ++ var_rows todo) v) (padded_row 64 (map (decimal 0) x.numbers)) ∙ u;
         }
 

@@ -9,7 +9,7 @@ use Rattle.words.specs.Words.{pack}
 use Rattle.text.specs.Slices.{row, kind_words, words, starts, name_rows}
 use Rattle.text.specs.Writes.{Row, row_of, writes}
 use Rattle.text.specs.Parts.{Packed, NameAt, LinesAt, closing}
-use Rattle.text.specs.Tables.{padded, NamesAt, show_kind, KindAt}
+use Rattle.text.specs.Tables.{padded, RowAt, show_kind, KindAt}
 use Rattle.text.proofs.Rows.{writes_on, room_on, writes_read}
 use Rattle.text.proofs.Lists.{padded_row, padded_length, padded_front, row_next}
 
@@ -17,19 +17,19 @@ pub row_length : (n : ℕ) (xs : List ℕ) → length (row n xs) ≡ n
 row_length n xs = ap length (sym (padded_row n xs)) ∙ padded_length n xs
 
 -- A kind's own names, read from where they were written.
-own_names : (ws : List (List ℕ)) (start : ℕ) (xs : List ℕ) (r' : Row ℕ) (width : ℕ) → length ws ≤ 64 → start + 64 ≤ length xs → r' ≡ writes (padded 64 (map pack ws)) (row_of start xs) →
+own_names : (ws : List (List ℕ)) (start : ℕ) (xs : List ℕ) (r' : Row ℕ) (width : ℕ) → length ws ≤ 64 → start + 64 ≤ length xs → r' ≡ writes (padded 0 64 (map pack ws)) (row_of start xs) →
     width ≡ length (map pack ws) → take width (drop start r'.items) ≡ map pack ws
 own_names ws start xs r' width h l e w =
     let m = length-map ws pack in
     let p = padded_length 64 (map pack ws) in
     ap (λ n. take n (drop start r'.items)) w ∙ sym (take-take (length (map pack ws)) 64 (drop start r'.items) (omega arith))
     ∙ ap (take (length (map pack ws)))
-    (ap (λ r. take 64 (drop start r.items)) e ∙ ap (λ n. take n (drop start (writes (padded 64 (map pack ws)) (row_of start xs)).items)) (sym p)
-    ∙ writes_read (padded 64 (map pack ws)) start xs (omega arith))
+    (ap (λ r. take 64 (drop start r.items)) e ∙ ap (λ n. take n (drop start (writes (padded 0 64 (map pack ws)) (row_of start xs)).items)) (sym p)
+    ∙ writes_read (padded 0 64 (map pack ws)) start xs (omega arith))
     ∙ padded_front 64 (map pack ws) (omega arith)
 
 pub kind_by : (bs : List ℕ) (ns c : Row ℕ) (bs1 : List ℕ) (p : ℕ) (bs2 : List ℕ) (r1 : Row ℕ) (bs3 : List ℕ) (width : ℕ) (r2 : Row ℕ) (own bs4 bs5 : List ℕ) (c' : Row ℕ) (bs6 : List ℕ) →
-    bs1 ≡ drop 5 bs → NameAt bs1 p bs2 → r1 ≡ writes (p ∷ []) ns → NamesAt bs2 64 r1 bs3 width r2 →
+    bs1 ≡ drop 5 bs → NameAt bs1 p bs2 → r1 ≡ writes (p ∷ []) ns → RowAt is_name pack 0 bs2 64 r1 bs3 width r2 →
     (r1.used + width ≤ length r2.items → own ≡ take width (drop r1.used r2.items)) → bs4 ≡ drop 1 bs3 → LinesAt bs4 own (length bs4) c bs5 c' → bs6 ≡ drop 4 bs5 →
     KindAt bs ns c bs6 r2 c'
 unfolding padded writes
@@ -45,7 +45,7 @@ kind_by bs ns c bs1 p bs2 r1 bs3 width r2 own bs4 bs5 c' bs6 e1 f q g o e4 z e6 
     let w = f x.name n.1 n.0 (a ∙ ap (λ y. x.name ++ y) n.2) s1.0 n.3 in
     let h = g x.numbers (show_lines x.lines ++ closing false k) (w.1 ∙ sym n.2) s2.0 few in
     let o1 = room_on (p ∷ []) 64 ns r1 q (omega arith) in
-    let o2 = room_on (padded 64 (map pack x.numbers)) 0 r1 r2 h.written (omega (arith, padded_length 64 (map pack x.numbers))) in
+    let o2 = room_on (padded 0 64 (map pack x.numbers)) 0 r1 r2 h.written (omega (arith, padded_length 64 (map pack x.numbers))) in
     let wi = h.width_is ∙ length-map x.numbers pack in
     let pl = padded_length 64 (map pack x.numbers) in
     let own_is = o (omega arith) ∙ own_names x.numbers r1.used r1.items r2 width few (omega arith) h.written h.width_is in
@@ -57,7 +57,7 @@ kind_by bs ns c bs1 p bs2 r1 bs3 width r2 own bs4 bs5 c' bs6 e1 f q g o e4 z e6 
     record {
       goes_on = e6 ∙ ap (drop 4) y.0;
       names_are =
-          h.written ∙ ap (writes (padded 64 (map pack x.numbers))) q ∙ ap (λ v. writes (v ∷ padded 64 (map pack x.numbers)) ns) w.0
+          h.written ∙ ap (writes (padded 0 64 (map pack x.numbers))) q ∙ ap (λ v. writes (v ∷ padded 0 64 (map pack x.numbers)) ns) w.0
           ∙ ap (λ v. writes v ns) (padded_row 65 (map pack (x.name ∷ x.numbers)));
       code_is = y.1;
     }

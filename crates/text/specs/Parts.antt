@@ -1,5 +1,5 @@
 -- What is read of a good text from where it stands, and written of it.
-use Rattle.std.specs.Prelude.{◌≡◌, ℕ, suc, ◌+◌, ◌-◌, ◌%◌, ◌<◌, ◌≤◌, Bool, true, false, cond, List, [], ◌∷◌, ◌++◌, map, length, codes, ◌==◌, ◌≢◌, slice_index}
+use Rattle.std.specs.Prelude.{◌≡◌, ℕ, suc, ◌+◌, ◌-◌, ◌%◌, ◌<◌, ◌≤◌, Bool, true, false, cond, ◌&&◌, List, [], ◌∷◌, ◌++◌, map, length, codes, ◌==◌, ◌≢◌, slice_index}
 use Rattle.body.specs.Encode.{encode_expr, encode}
 use Rattle.grammar.specs.Syntax as text
 use Rattle.grammar.specs.Syntax.{in_word, is_word, is_name, is_number, is_operand, every, Term, show_term, spelled_term, Lines, show_lines, spelled_lines}
@@ -21,16 +21,21 @@ abbrev pub WordAt : List ℕ → Word → List ℕ → Type 0
 WordAt bs word bs' =
     (w k : List ℕ) (b : ℕ) → bs ≡ w ++ b ∷ k → is_word w ≡ true → in_word b ≡ false → (word ≡ word_of w) × (bs' ≡ b ∷ k)
 
--- So too of a name, packed.
-abbrev pub NameAt : List ℕ → ℕ → List ℕ → Type 0
-NameAt bs p bs' =
-    (w k : List ℕ) (b : ℕ) → bs ≡ w ++ b ∷ k → is_name w ≡ true → in_word b ≡ false → (p ≡ pack w) × (bs' ≡ b ∷ k)
+-- So too of other bytes, if they are good, as some value.
+abbrev pub ReadAt : {A : Type 0} → (List ℕ → Bool) → (List ℕ → A) → List ℕ → A → List ℕ → Type 0
+ReadAt good value bs x bs' =
+    (w k : List ℕ) (b : ℕ) → bs ≡ w ++ b ∷ k → good w ≡ true → in_word b ≡ false → (x ≡ value w) × (bs' ≡ b ∷ k)
 
--- So too of the digits of a number.
+-- A name, packed.
+abbrev pub NameAt : List ℕ → ℕ → List ℕ → Type 0
+NameAt = ReadAt is_name pack
+
+-- The digits of a number below 2^32.
+abbrev pub is_small : List ℕ → Bool
+is_small ds = is_number ds && small ds
+
 abbrev pub NumberAt : List ℕ → ℕ → List ℕ → Type 0
-NumberAt bs n bs' =
-    (ds k : List ℕ) (b : ℕ) → bs ≡ ds ++ b ∷ k → is_number ds ≡ true → small ds ≡ true → in_word b ≡ false →
-    (n ≡ decimal 0 ds) × (bs' ≡ b ∷ k)
+NumberAt = ReadAt is_small (decimal 0)
 
 -- Names that are packed in a row.
 pub record Packed (ns : List (List ℕ)) (ps : List ℕ) : Type 0 where

@@ -2,7 +2,7 @@
 use Rattle.std.specs.Prelude.{◌≡◌, ℕ, zero, suc, ◌+◌, ◌*◌, ◌<◌, ◌≤◌, Bool, true, false, ◌&&◌, List, [], ◌∷◌, ◌++◌, map, length, drop, codes, nat_le, slice_index}
 use Rattle.meaning.specs.declared.Message.{Message}
 use Rattle.body.specs.declared.Process.{Process}
-use Rattle.grammar.specs.Syntax.{is_name, is_number, every, Kind, Thing, Note, show_row, show_lines, show_kinds, show_things, show_notes, spelled_kind, spelled_thing, spelled_note}
+use Rattle.grammar.specs.Syntax.{every, Kind, Thing, Note, show_row, show_lines, show_kinds, show_things, show_notes, spelled_kind, spelled_thing, spelled_note}
 use Rattle.grammar.specs.Check.{decimal}
 use Rattle.grammar.specs.Rules.{small, right_note, right_kind}
 use Rattle.words.specs.Words.{pack}
@@ -33,28 +33,21 @@ NotesAt bs things count xs xs' =
     (ns : List Note) → bs ≡ show_notes ns → every spelled_note ns ≡ true → every (right_note things) ns ≡ true → things ≤ 65536 → length ns ≡ count →
     xs' ≡ (writes (counted things 0 (map sent ns)) (row_of 0 xs)).items
 
--- Numbers in so many places, 0 behind them.
-unfoldable pub padded : ℕ → List ℕ → List ℕ
-padded zero xs = []
-padded (suc n) [] = 0 ∷ padded n []
-padded (suc n) (x ∷ xs) = x ∷ padded n xs
+-- Items in so many places, another one behind them.
+unfoldable pub padded : {A : Type 0} → A → ℕ → List A → List A
+padded none zero xs = []
+padded none (suc n) [] = none ∷ padded none n []
+padded none (suc n) (x ∷ xs) = x ∷ padded none n xs
 
--- A row of numbers, each after a space, is written into so many places.
-pub record WroteRow (bs' : List ℕ) (k : List ℕ) (width n : ℕ) (xs : List ℕ) (r r' : Row ℕ) : Type 0 where
+-- A row, each entry after a space, is written into so many places.
+pub record WroteRow {A : Type 0} (none : A) (bs' k : List ℕ) (width n : ℕ) (xs : List A) (r r' : Row A) : Type 0 where
   pub goes_on : bs' ≡ k
   pub width_is : width ≡ length xs
-  pub written : r' ≡ writes (padded n xs) r
+  pub written : r' ≡ writes (padded none n xs) r
 
-abbrev pub NumbersAt : List ℕ → ℕ → Row ℕ → List ℕ → ℕ → Row ℕ → Type 0
-NumbersAt bs n r bs' width r' =
-    (ds : List (List ℕ)) (k : List ℕ) → bs ≡ show_row ds ++ 10 ∷ k → every is_number ds ≡ true → every small ds ≡ true → length ds ≤ n →
-    WroteRow bs' (10 ∷ k) width n (map (decimal 0) ds) r r'
-
--- So too of names, packed.
-abbrev pub NamesAt : List ℕ → ℕ → Row ℕ → List ℕ → ℕ → Row ℕ → Type 0
-NamesAt bs n r bs' width r' =
-    (ws : List (List ℕ)) (k : List ℕ) → bs ≡ show_row ws ++ 10 ∷ k → every is_name ws ≡ true → length ws ≤ n →
-    WroteRow bs' (10 ∷ k) width n (map pack ws) r r'
+abbrev pub RowAt : {A : Type 0} → (List ℕ → Bool) → (List ℕ → A) → A → List ℕ → ℕ → Row A → List ℕ → ℕ → Row A → Type 0
+RowAt good value none bs n r bs' width r' =
+    (ds : List (List ℕ)) (k : List ℕ) → bs ≡ show_row ds ++ 10 ∷ k → every good ds ≡ true → length ds ≤ n → WroteRow none bs' (10 ∷ k) width n (map value ds) r r'
 
 -- The first of each 65, so many times.
 unfoldable pub firsts : ℕ → List ℕ → List ℕ

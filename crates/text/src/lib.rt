@@ -3,6 +3,7 @@
 
 ghost use Rattle.text.specs.Promise.{DigitsRead, FilledHolds};
 
+mod entries;
 pub mod laws;
 mod loader;
 pub mod play;

@@ -1,6 +1,6 @@
 // Lent slices filled from a text that was checked. Other bytes fill them with anything. What reads is given the text from where it stands,
 // and gives the text behind.
-ghost use Rattle.std.specs.Prelude.{◌≡◌, ℕ, ◌+◌, ◌≤◌, ◌==◌, true, List, [], ◌∷◌, length, position, take, drop, slice_index, slice_set};
+ghost use Rattle.std.specs.Prelude.{◌≡◌, ℕ, ◌+◌, ◌≤◌, ◌==◌, true, List, [], ◌∷◌, length, take, drop, slice_set};
 ghost use Rattle.grammar.specs.Rules.{Keeps};
 ghost use Rattle.grammar.specs.Syntax.{Text, IsText};
 ghost use Rattle.body.specs.Code.{expr_word};
@@ -9,8 +9,9 @@ ghost use Rattle.text.specs.Slices.{filled, roomy};
 ghost use Rattle.text.specs.Writes.{row_of, writes};
 ghost use Rattle.text.specs.Slots.{row_in};
 ghost use Rattle.text.specs.Parts.{place_of, WordAt, NameAt, NumberAt, TermAt, OperandAt, sign_word, PlainAt, ExprAt, HeadAt, SayAt, SendAt, DrawAt, PutAt, SimpleAt, LinesAt, BranchAt, RepeatAt, between};
-ghost use Rattle.text.specs.Tables.{NoteAt, NotesAt, NumbersAt, NamesAt, firsts, ThingsAt, KindAt, KindsAt};
+ghost use Rattle.text.specs.Tables.{NoteAt, NotesAt, RowAt, firsts, ThingsAt, KindAt, KindsAt};
 
+use super::entries::{Entry, nth, position_of};
 use body::{Act, Binary, ExprOp, LineOp, Process, skip};
 use checker::{Extent, Refusal, Rule, check};
 use meaning::Message;
@@ -66,7 +67,7 @@ fn word_at(text: &[u8]) -> (Word, &[u8])
     }
 }
 
-fn name_at(text: &[u8]) -> (u64, &[u8])
+pub fn name_at(text: &[u8]) -> (u64, &[u8])
     ensures { NameAt text.now result.0 result.1.now }
 {
     match words::read_name(text) {
@@ -75,20 +76,13 @@ fn name_at(text: &[u8]) -> (u64, &[u8])
     }
 }
 
-fn number_at(text: &[u8]) -> (u32, &[u8])
+pub fn number_at(text: &[u8]) -> (u32, &[u8])
     ensures { NumberAt text.now result.0 result.1.now }
 {
     match words::read_number(text) {
         Ok((digits, rest)) => (words::number_of(digits).unwrap_or(0), rest),
         Err(rest) => (0, rest),
     }
-}
-
-// The first place of a name in a row.
-fn position_of(names: &[u64], name: u64) -> Option<usize>
-    ensures { result ≡ position (λ n. n == name) names.now }
-{
-    names.iter().position(|n| *n == name)
 }
 
 // The place of a name in a row, or the length of the row.
@@ -100,13 +94,6 @@ fn place_of(names: &[u64], name: u64) -> usize
         Some(k) => k,
         None => names.len(),
     }
-}
-
-// The first byte, or 0.
-fn front(text: &[u8]) -> u8
-    ensures { result ≡ slice_index text.now 0 }
-{
-    text.first().copied().unwrap_or(0)
 }
 
 // The operation of a sign.
@@ -149,7 +136,7 @@ fn fill_plain<'a>(text: &'a [u8], names: &[u64], code: &mut Slots<'_, u32>) -> &
     ensures same { code.new.items.ghost_name ≡ code.old.items.ghost_name }
     ensures is { PlainAt text.now names.now (row_in code.old) result.now (row_in code.new) }
 {
-    if front(text).is_ascii_digit() {
+    if nth(text, 0, 0).is_ascii_digit() {
         let (number, rest) = number_at(text);
         code.push(u32::from(ExprOp::Fixed));
         code.push(number);
@@ -169,14 +156,14 @@ fn fill_term<'a>(text: &'a [u8], names: &[u64], code: &mut Slots<'_, u32>, depth
     if depth == 0 {
         return text;
     }
-    if front(text) != b'(' {
+    if nth(text, 0, 0) != b'(' {
         return fill_plain(text, names, code);
     }
     let opened = code.used;
     code.push(0);
     let first = fill_term(skip(text, 1), names, code, depth - 1);
     let sign = skip(first, 1);
-    code.set(opened, u32::from(operation(front(sign))));
+    code.set(opened, u32::from(operation(nth(sign, 0, 0))));
     let second = fill_term(skip(sign, 2), names, code, depth - 1);
     skip(second, 1)
 }
@@ -309,7 +296,7 @@ fn fill_branch<'a>(
     let one = fill_lines(head, names, code, most);
     let end = code.used;
     code.set(opened, between(start, end));
-    if front(skip(one, 1)) == b'l' {
+    if nth(one, 1, 0) == b'l' {
         let two = fill_lines(skip(one, 5), names, code, most);
         code.set(second, between(end, code.used));
         return skip(two, 4);
@@ -403,51 +390,29 @@ fn fill_notes(text: &[u8], things: usize, count: usize, messages: &mut Slots<'_,
     }
 }
 
-// The numbers of a thing, with 0 in the places that are left; how many there are, and the text behind.
-fn fill_numbers<'a>(text: &'a [u8], vars: &mut Slots<'_, u32>, left: usize) -> (u32, &'a [u8])
+// A row's entries, with another item in the places that are left; how many there are, and the text behind.
+fn fill_row<'a, T: Entry>(
+    text: &'a [u8],
+    none: T,
+    slots: &mut Slots<'_, T>,
+    left: usize,
+) -> (u32, &'a [u8])
     requires { left ≤ 64 }
-    ensures same { vars.new.items.ghost_name ≡ vars.old.items.ghost_name }
-    ensures is { NumbersAt text.now left (row_in vars.old) result.1.now result.0 (row_in vars.new) }
+    ensures same { slots.new.items.ghost_name ≡ slots.old.items.ghost_name }
+    ensures is { RowAt T.good T.value none text.now left (row_in slots.old) result.1.now result.0 (row_in slots.new) }
     ensures narrow { result.0 ≤ left }
 {
     if left == 0 {
         return (0, text);
     }
-    if front(text) != b' ' {
-        vars.push(0);
-        return fill_numbers(text, vars, left - 1);
+    if nth(text, 0, 0) != b' ' {
+        slots.push(none);
+        return fill_row(text, none, slots, left - 1);
     }
-    let (number, rest) = number_at(skip(text, 1));
-    vars.push(number);
-    let (width, rest) = fill_numbers(rest, vars, left - 1);
+    let (entry, rest) = T::read(skip(text, 1));
+    slots.push(entry);
+    let (width, rest) = fill_row(rest, none, slots, left - 1);
     (width + 1, rest)
-}
-
-// The names of a kind's numbers, packed, with 0 in the places that are left; how many there are, and the text behind.
-fn fill_names<'a>(text: &'a [u8], names: &mut Slots<'_, u64>, left: usize) -> (u32, &'a [u8])
-    requires { left ≤ 64 }
-    ensures same { names.new.items.ghost_name ≡ names.old.items.ghost_name }
-    ensures is { NamesAt text.now left (row_in names.old) result.1.now result.0 (row_in names.new) }
-    ensures narrow { result.0 ≤ left }
-{
-    if left == 0 {
-        return (0, text);
-    }
-    if front(text) != b' ' {
-        names.push(0);
-        return fill_names(text, names, left - 1);
-    }
-    let (name, rest) = name_at(skip(text, 1));
-    names.push(name);
-    let (width, rest) = fill_names(rest, names, left - 1);
-    (width + 1, rest)
-}
-
-// The first name of a row, or that of no bytes.
-fn front_name(names: &[u64]) -> u64
-    ensures { result ≡ slice_index names.now 0 }
-{
-    names.first().copied().unwrap_or(0)
 }
 
 // The place of a kind among the first so many, each with its name in front of 64 others.
@@ -457,7 +422,7 @@ fn kind_of(names: &[u64], count: usize, name: u64) -> usize
 {
     let mut rows = names;
     for j in 0..count {
-        if front_name(rows) == name {
+        if nth(rows, 0, 0) == name {
             return j;
         }
         rows = skip(rows, 65);
@@ -483,7 +448,7 @@ fn fill_things<'a>(
     let mut rest = text;
     for _i in 0..count {
         let (name, numbers) = name_at(skip(rest, 6));
-        let (width, behind) = fill_numbers(numbers, vars, 64);
+        let (width, behind) = fill_row(numbers, 0, vars, 64);
         processes.push(Process {
             kind: (kind_of(names, kinds, name) % 4294967296) as u32,
             width,
@@ -513,7 +478,7 @@ fn fill_kind<'a>(text: &'a [u8], names: &mut Slots<'_, u64>, code: &mut Slots<'_
     let (name, numbers) = name_at(skip(text, 5));
     names.push(name);
     let start = names.used;
-    let (width, rest) = fill_names(numbers, names, 64);
+    let (width, rest) = fill_row(numbers, 0, names, 64);
     let items = &mut *names.items;
     let own = part(items, start, width as usize);
     let lines = skip(rest, 1);

@@ -9,6 +9,7 @@ ghost use Rattle.body.specs.declared.LineOp.TheVariants.{Do, Branch, Repeat};
 ghost use Rattle.grammar.specs.Syntax.{sign_byte, show_row, show_kinds, show_things, show_notes};
 ghost use Rattle.text.specs.Slices.{names_of, held_note};
 
+use super::entries::{Entry, first, nth, position_of};
 use body::{Act, Binary, ExprOp, LineOp, Process, skip};
 use checker::{Refusal, Rule};
 use meaning::Message;
@@ -26,48 +27,10 @@ pub struct Model<'a> {
 
 // Lent bytes, written up to an end that may not pass the limit. What has no place in them is only counted.
 #[derive(Drop)]
-struct Out<'a> {
+pub struct Out<'a> {
     bytes: &'a mut [u8],
     end: usize,
     limit: usize,
-}
-
-// What stands in a row of a text: a number, or a packed name.
-trait Entry: Copy {
-    ghost bytes: { Self → List ℕ };
-
-    fn write(self, out: &mut Out<'_>) -> Option<()>
-        ensures { Writes (bytes self) out.old out.new result };
-}
-
-impl Entry for u32 {
-    ghost bytes = { digits };
-
-    fn write(self, out: &mut Out<'_>) -> Option<()> {
-        out.write_number(self as u64)
-    }
-}
-
-impl Entry for u64 {
-    ghost bytes = { unpack };
-
-    fn write(self, out: &mut Out<'_>) -> Option<()> {
-        out.write_name(self)
-    }
-}
-
-// The word at k, or 0 where there is none.
-fn word(words: &[u32], k: usize) -> u32
-    ensures { result ≡ slice_index words.now k }
-{
-    words.get(k).copied().unwrap_or(0)
-}
-
-// The packed name at k, or that of no bytes where there is none.
-fn name_at(names: &[u64], k: usize) -> u64
-    ensures { result ≡ slice_index names.now k }
-{
-    names.get(k).copied().unwrap_or(0)
 }
 
 // No From<Binary> for u8: a crate implements std's traits for its own types only.
@@ -100,24 +63,11 @@ fn skip_term(code: &[u32], fuel: usize) -> &[u32]
     }
 }
 
-// The first k.
-fn first<T>(items: &[T], k: usize) -> &[T]
-    ensures { result.now ≡ take k items.now }
-{
-    items.get(..k).unwrap_or(items)
-}
-
-fn first_unused(names: &[u64]) -> Option<usize>
-    ensures { result ≡ position (λ name. name == 0) names.now }
-{
-    names.iter().position(|name| *name == 0)
-}
-
 // The names up to the first that is 0.
 fn known(names: &[u64]) -> &[u64]
     ensures { map unpack result.now ≡ names_of names.now }
 {
-    match first_unused(names) {
+    match position_of(names, 0) {
         Some(k) => &names[..k],
         None => names,
     }
@@ -149,7 +99,7 @@ impl Out<'_> {
     }
 
     // The word that a packed one stands for.
-    fn write_name(&mut self, packed: u64) -> Option<()>
+    pub fn write_name(&mut self, packed: u64) -> Option<()>
         ensures { Writes (unpack packed) self.old self.new result }
     {
         let mut p = packed;
@@ -177,7 +127,7 @@ impl Out<'_> {
         self.put(b'0' + (n % 10) as u8)
     }
 
-    fn write_number(&mut self, n: u64) -> Option<()>
+    pub fn write_number(&mut self, n: u64) -> Option<()>
         ensures { Writes (digits n) self.old self.new result }
     {
         self.write_digits(20, n)
@@ -194,11 +144,11 @@ impl Out<'_> {
         let rest = skip(code, 1);
         match ExprOp::from(code[0]) {
             ExprOp::Fixed => {
-                self.write_number(word(rest, 0) as u64)?;
+                self.write_number(nth(rest, 0, 0) as u64)?;
                 Some(skip(rest, 1))
             }
             ExprOp::Var => {
-                self.write_name(name_at(names, word(rest, 0) as usize))?;
+                self.write_name(nth(names, nth(rest, 0, 0) as usize, 0))?;
                 Some(skip(rest, 1))
             }
             ExprOp::It => {
@@ -258,14 +208,14 @@ impl Out<'_> {
     {
         match act {
             Act::Assign => {
-                self.write_name(name_at(names, word(code, 0) as usize))?;
+                self.write_name(nth(names, nth(code, 0, 0) as usize, 0))?;
                 self.write_all(b" = ")?;
                 let behind = self.write_term(skip(code, 1), fuel, names)?;
                 self.put(b'\n')?;
                 Some(behind)
             }
             Act::Draw => {
-                self.write_name(name_at(names, word(code, 0) as usize))?;
+                self.write_name(nth(names, nth(code, 0, 0) as usize, 0))?;
                 self.write_all(b" = draw ")?;
                 let behind = self.write_term(skip(code, 1), fuel, names)?;
                 self.put(b'\n')?;
@@ -303,11 +253,11 @@ impl Out<'_> {
         let then = self.write_term(skip(code, 2), fuel, names)?;
         self.put(b'\n')?;
         self.write_lines(then, fuel, names)?;
-        let otherwise = skip(then, word(code, 0) as usize);
+        let otherwise = skip(then, nth(code, 0, 0) as usize);
         self.write_else(otherwise, fuel)?;
         self.write_lines(otherwise, fuel, names)?;
         self.write_all(b"end\n")?;
-        Some(skip(otherwise, word(code, 1) as usize))
+        Some(skip(otherwise, nth(code, 1, 0) as usize))
     }
 
     // So too of a repeat.
@@ -320,7 +270,7 @@ impl Out<'_> {
         self.put(b'\n')?;
         self.write_lines(body, fuel, names)?;
         self.write_all(b"end\n")?;
-        Some(skip(body, word(code, 0) as usize))
+        Some(skip(body, nth(code, 0, 0) as usize))
     }
 
     // The lines at the front of the code, one after the other; fuel falls with each line and each depth.
@@ -405,7 +355,7 @@ impl Out<'_> {
         let numbers = known(first(skip(names, 1), 64));
         let own = skip(code, start as usize);
         self.write_all(b"kind ")?;
-        self.write_name(name_at(names, 0))?;
+        self.write_name(nth(names, 0, 0))?;
         self.write_row(numbers)?;
         self.put(b'\n')?;
         self.write_lines(own, own.len(), numbers)?;
@@ -429,7 +379,7 @@ fn kind_name(kinds: &[u32], names: &[u64], k: u32) -> u64
     ensures { result ≡ kind_name kinds.now names.now k }
 {
     if (k as usize) < kinds.len() {
-        name_at(names, 65 * k as usize)
+        nth(names, 65 * k as usize, 0)
     } else {
         0
     }

@@ -4,16 +4,16 @@ use Rattle.text.specs.Writes.{writes}
 use Rattle.text.proofs.Blocks.{branch_else, branch_none, repeat_by, lines_none, lines_branch, lines_again, lines_simple, lines_close}
 use Rattle.text.proofs.loader.+lines.Goals as goal
 
-pub fill_branch-returns-then-front-eq108-clause-is : goal.fill_branch-returns-then-front-eq108-clause-is
-fill_branch-returns-then-front-eq108-clause-is t c =
+pub fill_branch-returns-then-nth-eq108-clause-is : goal.fill_branch-returns-then-nth-eq108-clause-is
+fill_branch-returns-then-nth-eq108-clause-is t c =
     branch_else c.args.names.now c.args.text.now c.args.most (row_in c.args.code.now) (row_in c.push.new.self) (row_in c.push-2.new.self) (row_in c.push-3.new.self) c.fill_head-head.result.now (row_in c.fill_head-head.new.code) c.fill_lines-one.result.now (row_in c.fill_lines-one.new.code) c.between.result (row_in c.set.new.self)
-    (c.push.ensures.is ∙ ap (λ x. writes (x ∷ []) (row_in c.args.code.now)) c.from.ensures) c.push-2.ensures.is c.push-3.ensures.is c.fill_head-head.ensures.is c.fill_lines-one.ensures.is c.between.ensures c.set.ensures.is c.skip.result.now c.skip.ensures (sym c.front.ensures ∙ c.if-front-eq108.true) c.skip-then-front-eq108.result.now c.fill_lines-two.result.now (row_in c.fill_lines-two.new.code)
-    c.between-then-front-eq108.result (row_in c.set-then-front-eq108.new.self) c.skip-then-front-eq108-2.result.now c.skip-then-front-eq108.ensures c.fill_lines-two.ensures.is c.between-then-front-eq108.ensures c.set-then-front-eq108.ensures.is c.skip-then-front-eq108-2.ensures
+    (c.push.ensures.is ∙ ap (λ x. writes (x ∷ []) (row_in c.args.code.now)) c.from.ensures) c.push-2.ensures.is c.push-3.ensures.is c.fill_head-head.ensures.is c.fill_lines-one.ensures.is c.between.ensures c.set.ensures.is (sym c.nth.ensures ∙ c.if-nth-eq108.true) c.skip.result.now c.fill_lines-two.result.now (row_in c.fill_lines-two.new.code)
+    c.between-then-nth-eq108.result (row_in c.set-then-nth-eq108.new.self) c.skip-then-nth-eq108.result.now c.skip.ensures c.fill_lines-two.ensures.is c.between-then-nth-eq108.ensures c.set-then-nth-eq108.ensures.is c.skip-then-nth-eq108.ensures
 
 pub fill_branch-returns-clause-is : goal.fill_branch-returns-clause-is
 fill_branch-returns-clause-is t c =
     branch_none c.args.names.now c.args.text.now c.args.most (row_in c.args.code.now) (row_in c.push.new.self) (row_in c.push-2.new.self) (row_in c.push-3.new.self) c.fill_head-head.result.now (row_in c.fill_head-head.new.code) c.fill_lines-one.result.now (row_in c.fill_lines-one.new.code) c.between.result (row_in c.set.new.self)
-    (c.push.ensures.is ∙ ap (λ x. writes (x ∷ []) (row_in c.args.code.now)) c.from.ensures) c.push-2.ensures.is c.push-3.ensures.is c.fill_head-head.ensures.is c.fill_lines-one.ensures.is c.between.ensures c.set.ensures.is c.skip.result.now c.skip.ensures (λ e. c.if-front-eq108.false (c.front.ensures ∙ e)) (row_in c.push-4.new.self) (row_in c.set-2.new.self) c.skip-2.result.now
+    (c.push.ensures.is ∙ ap (λ x. writes (x ∷ []) (row_in c.args.code.now)) c.from.ensures) c.push-2.ensures.is c.push-3.ensures.is c.fill_head-head.ensures.is c.fill_lines-one.ensures.is c.between.ensures c.set.ensures.is (λ e. c.if-nth-eq108.false (c.nth.ensures ∙ e)) (row_in c.push-4.new.self) (row_in c.set-2.new.self) c.skip-2.result.now
     (c.push-4.ensures.is ∙ ap (λ x. writes (x ∷ []) (row_in c.set.new.self)) c.from-2.ensures) c.set-2.ensures.is c.skip-2.ensures
 
 pub fill_repeat-returns-clause-is : goal.fill_repeat-returns-clause-is

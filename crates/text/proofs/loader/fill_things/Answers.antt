@@ -11,11 +11,11 @@ loop-i-init c =
 pub loop-i-preserved : goal.loop-i-preserved
 loop-i-preserved c = (
   c.push.ensures.same ∙ c.loop-i.invariant.0,
-  c.fill_numbers-width.ensures.same ∙ c.loop-i.invariant.1,
+  c.fill_row-width.ensures.same ∙ c.loop-i.invariant.1,
   λ ks xs k pk h e s g l.
       things_more c.loop-i.rest.now c.loop-i._i c.args.count ks xs k (row_in c.loop-i.processes) (row_of 0 c.args.processes.now.items.now) (row_in c.loop-i.vars) (row_of 0 c.args.vars.now.items.now) c.args.kinds c.args.names.now c.skip.result.now c.name_at-name.result.0 c.name_at-name.result.1.now
-      c.fill_numbers-width.result.1.now c.fill_numbers-width.result.0 (row_in c.fill_numbers-width.new.vars) c.kind_of.result (row_in c.push.new.self) c.skip-rest.result.now pk h c.loop-i-test.true c.skip.ensures
-      c.name_at-name.ensures c.fill_numbers-width.ensures.is c.kind_of.ensures.is c.kind_of.ensures.inside c.push.ensures.is c.skip-rest.ensures (c.loop-i.invariant.2 ks xs k pk h e s g l),
+      c.fill_row-width.result.1.now c.fill_row-width.result.0 (row_in c.fill_row-width.new.slots) c.kind_of.result (row_in c.push.new.self) c.skip-rest.result.now pk h c.loop-i-test.true c.skip.ensures
+      c.name_at-name.ensures c.fill_row-width.ensures.is c.kind_of.ensures.is c.kind_of.ensures.inside c.push.ensures.is c.skip-rest.ensures (c.loop-i.invariant.2 ks xs k pk h e s g l),
 )
 
 pub returns-clause-same : goal.returns-clause-same

@@ -22,19 +22,19 @@ write_branch-returns-in_err-write_lines t c =
 
 pub write_branch-returns-in_err-write_else : goal.write_branch-returns-in_err-write_else
 write_branch-returns-in_err-write_else t c =
-    lost _ c.from_residual-in_err-write_else.ensures (ahead_passed (ahead_more (ahead_more (ahead_more (ahead_more (ahead_all (branch_bytes c.args.names.now c.args.fuel c.args.code.now c.skip.ensures c.in_ok-then.ensures.rest_is c.word.ensures c.skip-otherwise.ensures refl refl)) refl c.in_ok-write_all.ensures) refl c.in_ok-then.ensures.spilled) refl c.in_ok-put.ensures) refl c.in_ok-write_lines.ensures) _ refl c.in_err-write_else.ensures)
+    lost _ c.from_residual-in_err-write_else.ensures (ahead_passed (ahead_more (ahead_more (ahead_more (ahead_more (ahead_all (branch_bytes c.args.names.now c.args.fuel c.args.code.now c.skip.ensures c.in_ok-then.ensures.rest_is c.nth.ensures c.skip-otherwise.ensures refl refl)) refl c.in_ok-write_all.ensures) refl c.in_ok-then.ensures.spilled) refl c.in_ok-put.ensures) refl c.in_ok-write_lines.ensures) _ refl c.in_err-write_else.ensures)
 
 pub write_branch-returns-in_err-write_lines-2 : goal.write_branch-returns-in_err-write_lines-2
 write_branch-returns-in_err-write_lines-2 t c =
-    lost _ c.from_residual-in_err-write_lines-2.ensures (ahead_passed (ahead_more (ahead_more (ahead_more (ahead_more (ahead_more (ahead_all (branch_bytes c.args.names.now c.args.fuel c.args.code.now c.skip.ensures c.in_ok-then.ensures.rest_is c.word.ensures c.skip-otherwise.ensures refl refl)) refl c.in_ok-write_all.ensures) refl c.in_ok-then.ensures.spilled) refl c.in_ok-put.ensures) refl c.in_ok-write_lines.ensures) refl c.in_ok-write_else.ensures) _ refl c.in_err-write_lines-2.ensures)
+    lost _ c.from_residual-in_err-write_lines-2.ensures (ahead_passed (ahead_more (ahead_more (ahead_more (ahead_more (ahead_more (ahead_all (branch_bytes c.args.names.now c.args.fuel c.args.code.now c.skip.ensures c.in_ok-then.ensures.rest_is c.nth.ensures c.skip-otherwise.ensures refl refl)) refl c.in_ok-write_all.ensures) refl c.in_ok-then.ensures.spilled) refl c.in_ok-put.ensures) refl c.in_ok-write_lines.ensures) refl c.in_ok-write_else.ensures) _ refl c.in_err-write_lines-2.ensures)
 
 pub write_branch-returns-in_err-write_all-2 : goal.write_branch-returns-in_err-write_all-2
 write_branch-returns-in_err-write_all-2 t c =
-    lost _ c.from_residual-in_err-write_all-2.ensures (ahead_passed (ahead_more (ahead_more (ahead_more (ahead_more (ahead_more (ahead_more (ahead_all (branch_bytes c.args.names.now c.args.fuel c.args.code.now c.skip.ensures c.in_ok-then.ensures.rest_is c.word.ensures c.skip-otherwise.ensures refl refl)) refl c.in_ok-write_all.ensures) refl c.in_ok-then.ensures.spilled) refl c.in_ok-put.ensures) refl c.in_ok-write_lines.ensures) refl c.in_ok-write_else.ensures) refl c.in_ok-write_lines-2.ensures) _ refl c.in_err-write_all-2.ensures)
+    lost _ c.from_residual-in_err-write_all-2.ensures (ahead_passed (ahead_more (ahead_more (ahead_more (ahead_more (ahead_more (ahead_more (ahead_all (branch_bytes c.args.names.now c.args.fuel c.args.code.now c.skip.ensures c.in_ok-then.ensures.rest_is c.nth.ensures c.skip-otherwise.ensures refl refl)) refl c.in_ok-write_all.ensures) refl c.in_ok-then.ensures.spilled) refl c.in_ok-put.ensures) refl c.in_ok-write_lines.ensures) refl c.in_ok-write_else.ensures) refl c.in_ok-write_lines-2.ensures) _ refl c.in_err-write_all-2.ensures)
 
 pub write_branch-returns : goal.write_branch-returns
 write_branch-returns t c =
-    ahead_more (ahead_more (ahead_more (ahead_more (ahead_more (ahead_more (ahead_more (ahead_all (branch_bytes c.args.names.now c.args.fuel c.args.code.now c.skip.ensures c.in_ok-then.ensures.rest_is c.word.ensures c.skip-otherwise.ensures c.word-2.ensures c.skip-2.ensures)) refl c.in_ok-write_all.ensures) refl c.in_ok-then.ensures.spilled) refl c.in_ok-put.ensures) refl c.in_ok-write_lines.ensures) refl c.in_ok-write_else.ensures) refl c.in_ok-write_lines-2.ensures) refl c.in_ok-write_all-2.ensures
+    ahead_more (ahead_more (ahead_more (ahead_more (ahead_more (ahead_more (ahead_more (ahead_all (branch_bytes c.args.names.now c.args.fuel c.args.code.now c.skip.ensures c.in_ok-then.ensures.rest_is c.nth.ensures c.skip-otherwise.ensures c.nth-2.ensures c.skip-2.ensures)) refl c.in_ok-write_all.ensures) refl c.in_ok-then.ensures.spilled) refl c.in_ok-put.ensures) refl c.in_ok-write_lines.ensures) refl c.in_ok-write_else.ensures) refl c.in_ok-write_lines-2.ensures) refl c.in_ok-write_all-2.ensures
 
 pub write_repeat-returns-in_err-write_all : goal.write_repeat-returns-in_err-write_all
 write_repeat-returns-in_err-write_all t c =
@@ -58,7 +58,7 @@ write_repeat-returns-in_err-write_all-2 t c =
 
 pub write_repeat-returns : goal.write_repeat-returns
 write_repeat-returns t c =
-    ahead_more (ahead_more (ahead_more (ahead_more (ahead_more (ahead_all (repeat_bytes c.args.names.now c.args.fuel c.args.code.now c.skip.ensures c.in_ok-body.ensures.rest_is c.word.ensures c.skip-2.ensures)) refl c.in_ok-write_all.ensures) refl c.in_ok-body.ensures.spilled) refl c.in_ok-put.ensures) refl c.in_ok-write_lines.ensures) refl c.in_ok-write_all-2.ensures
+    ahead_more (ahead_more (ahead_more (ahead_more (ahead_more (ahead_all (repeat_bytes c.args.names.now c.args.fuel c.args.code.now c.skip.ensures c.in_ok-body.ensures.rest_is c.nth.ensures c.skip-2.ensures)) refl c.in_ok-write_all.ensures) refl c.in_ok-body.ensures.spilled) refl c.in_ok-put.ensures) refl c.in_ok-write_lines.ensures) refl c.in_ok-write_all-2.ensures
 
 pub write_lines-loop-left-init : goal.write_lines-loop-left-init
 write_lines-loop-left-init t c =

@@ -17,19 +17,19 @@ returns-then-fuel-eq0 t c =
 
 pub returns-in_err-write_number-in-Fixed : goal.returns-in_err-write_number-in-Fixed
 returns-in_err-write_number-in-Fixed t c =
-    lost _ c.from_residual-in_err-write_number-in-Fixed.ensures (passed_told (fixed_bytes c.args.names.now c.args.fuel c.args.code.now c.skip-rest.result.now c.if-fuel-eq0.false c.if-is_empty.ensures c.skip-rest.ensures c.in-Fixed.ensures c.word.ensures) c.in_err-write_number-in-Fixed.ensures)
+    lost _ c.from_residual-in_err-write_number-in-Fixed.ensures (passed_told (fixed_bytes c.args.names.now c.args.fuel c.args.code.now c.skip-rest.result.now c.if-fuel-eq0.false c.if-is_empty.ensures c.skip-rest.ensures c.in-Fixed.ensures c.nth.ensures) c.in_err-write_number-in-Fixed.ensures)
 
 pub returns-in_ok-write_number-in-Fixed : goal.returns-in_ok-write_number-in-Fixed
 returns-in_ok-write_number-in-Fixed t c =
-    record { spilled = told (fixed_bytes c.args.names.now c.args.fuel c.args.code.now c.skip-rest.result.now c.if-fuel-eq0.false c.if-is_empty.ensures c.skip-rest.ensures c.in-Fixed.ensures c.word.ensures) c.in_ok-write_number-in-Fixed.ensures; rest_is = c.skip.ensures ∙ sym (rest_one c.args.names.now c.args.fuel c.args.code.now c.skip-rest.result.now c.if-fuel-eq0.false c.if-is_empty.ensures c.skip-rest.ensures Fixed c.in-Fixed.ensures (inl refl)) }
+    record { spilled = told (fixed_bytes c.args.names.now c.args.fuel c.args.code.now c.skip-rest.result.now c.if-fuel-eq0.false c.if-is_empty.ensures c.skip-rest.ensures c.in-Fixed.ensures c.nth.ensures) c.in_ok-write_number-in-Fixed.ensures; rest_is = c.skip.ensures ∙ sym (rest_one c.args.names.now c.args.fuel c.args.code.now c.skip-rest.result.now c.if-fuel-eq0.false c.if-is_empty.ensures c.skip-rest.ensures Fixed c.in-Fixed.ensures (inl refl)) }
 
 pub returns-in_err-write_name-in-Var : goal.returns-in_err-write_name-in-Var
 returns-in_err-write_name-in-Var t c =
-    lost _ c.from_residual-in_err-write_name-in-Var.ensures (passed_told (var_bytes c.args.names.now c.args.fuel c.args.code.now c.skip-rest.result.now c.if-fuel-eq0.false c.if-is_empty.ensures c.skip-rest.ensures c.in-Var.ensures c.word-in-Var.ensures c.name_at.ensures) c.in_err-write_name-in-Var.ensures)
+    lost _ c.from_residual-in_err-write_name-in-Var.ensures (passed_told (var_bytes c.args.names.now c.args.fuel c.args.code.now c.skip-rest.result.now c.if-fuel-eq0.false c.if-is_empty.ensures c.skip-rest.ensures c.in-Var.ensures c.nth-in-Var.ensures c.nth-in-Var-2.ensures) c.in_err-write_name-in-Var.ensures)
 
 pub returns-in_ok-write_name-in-Var : goal.returns-in_ok-write_name-in-Var
 returns-in_ok-write_name-in-Var t c =
-    record { spilled = told (var_bytes c.args.names.now c.args.fuel c.args.code.now c.skip-rest.result.now c.if-fuel-eq0.false c.if-is_empty.ensures c.skip-rest.ensures c.in-Var.ensures c.word-in-Var.ensures c.name_at.ensures) c.in_ok-write_name-in-Var.ensures; rest_is = c.skip-in-Var.ensures ∙ sym (rest_one c.args.names.now c.args.fuel c.args.code.now c.skip-rest.result.now c.if-fuel-eq0.false c.if-is_empty.ensures c.skip-rest.ensures Var c.in-Var.ensures (inr refl)) }
+    record { spilled = told (var_bytes c.args.names.now c.args.fuel c.args.code.now c.skip-rest.result.now c.if-fuel-eq0.false c.if-is_empty.ensures c.skip-rest.ensures c.in-Var.ensures c.nth-in-Var.ensures c.nth-in-Var-2.ensures) c.in_ok-write_name-in-Var.ensures; rest_is = c.skip-in-Var.ensures ∙ sym (rest_one c.args.names.now c.args.fuel c.args.code.now c.skip-rest.result.now c.if-fuel-eq0.false c.if-is_empty.ensures c.skip-rest.ensures Var c.in-Var.ensures (inr refl)) }
 
 pub returns-in_err-write_all-in-It : goal.returns-in_err-write_all-in-It
 returns-in_err-write_all-in-It t c =
