@@ -1,11 +1,11 @@
 -- Lines of a kind by their sort, and lines by how they close and how many may still come; the trees are left out.
 use Rattle.std.specs.Prelude.{ℕ}
-use Rattle.grammar.specs.Parse.{Close, by_end, by_else}
+use Rattle.grammar.specs.Parse.{Close}
 use Rattle.grammar.specs.Check.{Block, Head, ends, elses, assigns, draws, says, sends, whens, agains}
 use Rattle.words.specs.declared.Word.{Word}
+use Rattle.words.specs.Reads.{close_of}
 use Rattle.checker.specs.declared.lines.Sort.{Sort}
 use Rattle.checker.specs.declared.lines.Sort.TheVariants.{End, Else, Simple, Again, If}
-use Rattle.checker.specs.declared.lines.Closing.{Closing}
 use Rattle.checker.specs.declared.lines.Ended.{Ended}
 
 -- What sort of line it is.
@@ -45,10 +45,6 @@ pub record Shape : Type 0 where
 
 abbrev pub shape : Block → Shape
 shape b = record { close = b.close; left = b.left }
-
-abbrev pub close_of : Closing → Close
-close_of Closing.End = by_end
-close_of Closing.Else = by_else
 
 abbrev pub shape_of : Ended → Shape
 shape_of e = record { close = close_of e.by; left = e.left }

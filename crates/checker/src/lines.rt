@@ -10,7 +10,7 @@ ghost use Rattle.checker.specs.Lines.{sort_of, sort_by, shape, shape_of};
 
 use super::Rule;
 use crate::limits::{LINE, Refused, TOO_LARGE, check_below, cut_off, within_line};
-use words::{Word, begins_with_letter, read_literal, read_sign, read_word};
+use words::{Closing, Word, begins_with_letter, read_literal, read_sign, read_word};
 
 // A word that stands for a number: it, me, now, or a name that is known.
 fn check_operand<'a>(text: &'a [u8], names: &[u64]) -> Result<&'a [u8], Refused<'a>>
@@ -228,13 +228,6 @@ fn none_left<'a>(text: &'a [u8], scope: Scope) -> Refused<'a>
     ensures { excess {B = Block} text.now (check_head (names_in scope.entry.names.now) scope.entry.deep scope.entry.or_else text.now) ≡ refused_by result }
 {
     cut_off(text, 0, check_head(text, scope))
-}
-
-// How lines close: by end, or by else.
-#[derive(Clone, Copy)]
-pub enum Closing {
-    End,
-    Else,
 }
 
 // Lines by how they close, and how many lines may still come.

@@ -87,7 +87,7 @@ const MESSAGES: u8 = 35;
 
 const LINES: u8 = 62;
 
-// The refusal of bytes that are no letter.
+// The refusal of bytes that are no letter, written out: a constant cannot be a call, as `Rule::Letter.refusal(0)`.
 const NO_LETTER: Refusal = Refusal {
     rule: Rule::Letter,
     place: 0,

@@ -1,13 +1,13 @@
 -- What reading from the front of a text answers, where what was read does not matter: the bytes behind it, or those at which no text goes on so.
 use Rattle.std.specs.Prelude.{ℕ, cond, List, [], Ok, Err, codes, Result}
 use Rattle.std.specs.Borrow.{Bor}
+use Rattle.words.specs.declared.Closing.{Closing}
 use Rattle.words.specs.declared.Word.{Word}
 use Rattle.words.specs.declared.Word.TheVariants.{Say, Send, Draw, Name}
 use Rattle.words.specs.Words.{word_of, stands_for_number}
-use Rattle.words.specs.Reads.{map_got, first_is}
+use Rattle.words.specs.Reads.{map_got, first_is, close_of}
 use Rattle.grammar.specs.Syntax.{Term, newline, is_letter}
-use Rattle.reader.specs.declared.Closing.{Closing}
-use Rattle.grammar.specs.Parse.{Close, by_end, by_else, Block, Got, got, bad, and_then, expect, read_word, read_expr, read_last}
+use Rattle.grammar.specs.Parse.{Close, Block, Got, got, bad, and_then, expect, read_word, read_expr, read_last}
 
 -- What was read is left out.
 abbrev pub forget : {A : Type 0} → Got A → Got (Unit {0})
@@ -53,10 +53,6 @@ read_simple k bs = bad bs
 abbrev pub shape : Got Block → Got Close
 shape (got b bs) = got b.close bs
 shape (bad bs) = bad bs
-
-abbrev pub close_of : Closing → Close
-close_of Closing.End = by_end
-close_of Closing.Else = by_else
 
 abbrev pub closed : Result (Closing × Bor (List ℕ)) (Bor (List ℕ)) → Got Close
 closed (Ok c) = got (close_of c.0) c.1.now

@@ -10,7 +10,9 @@ ghost use Rattle.words.specs.Words.{stands_for_number};
 ghost use Rattle.reader.specs.Form.{StopsAt};
 ghost use Rattle.reader.specs.Rests.{forget, read_head, read_sent, read_put, read_simple, shape, closed, whole};
 
-use words::{Word, begins_with_letter, read_literal, read_name, read_number, read_sign, read_word};
+use words::{
+    Closing, Word, begins_with_letter, read_literal, read_name, read_number, read_sign, read_word,
+};
 
 // The most names behind a kind's.
 const NAMES: usize = 64;
@@ -124,13 +126,6 @@ fn read_simple<'a>(text: &'a [u8], word: Word) -> Result<&'a [u8], &'a [u8]>
         Word::Name(_) => read_put(text),
         _ => Err(text),
     }
-}
-
-// How lines close: by end, or by else.
-#[derive(Clone, Copy)]
-enum Closing {
-    End,
-    Else,
 }
 
 // Lines up to the end that closes them, or the else, if that may be; at most so many.

@@ -3,8 +3,9 @@ use Rattle.std.specs.Prelude.{ℕ, Bool, false, cond, List, [], ◌∷◌, Some,
 use Rattle.std.specs.Borrow.{Bor}
 use Rattle.grammar.specs.Syntax as grammar
 use Rattle.grammar.specs.Syntax.{plus, minus, times, over, remains, less, equal}
-use Rattle.grammar.specs.Parse.{Got, got, bad}
+use Rattle.grammar.specs.Parse.{Close, by_end, by_else, Got, got, bad}
 use Rattle.grammar.specs.Check.{decimal, too_large}
+use Rattle.words.specs.declared.Closing.{Closing}
 use Rattle.words.specs.declared.Sign.{Sign}
 use Rattle.words.specs.declared.Sign.TheVariants.{Plus, Minus, Times, Over, Remains, Less, Equal}
 
@@ -47,3 +48,8 @@ abbrev pub sign_by : ℕ → Option Sign
 sign_by b =
     cond (b == 43) (Some Plus) (cond (b == 45) (Some Minus) (cond (b == 42) (Some Times) (cond (b == 47) (Some Over)
     (cond (b == 37) (Some Remains) (cond (b == 60) (Some Less) (cond (b == 61) (Some Equal) None))))))
+
+-- How lines close.
+abbrev pub close_of : Closing → Close
+close_of Closing.End = by_end
+close_of Closing.Else = by_else

@@ -67,6 +67,13 @@ pub enum Word {
     Name(u64),
 }
 
+// How lines close: by end, or by else.
+#[derive(Clone, Copy, Debug, PartialEq, Eq)]
+pub enum Closing {
+    End,
+    Else,
+}
+
 // The signs of operations.
 #[derive(Clone, Copy, Debug, PartialEq, Eq)]
 pub enum Sign {

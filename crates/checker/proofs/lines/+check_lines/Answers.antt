@@ -3,7 +3,8 @@ use Rattle.std.proofs.lemmas.Result.{err_from_is_err_and}
 use Rattle.grammar.specs.Check.{check_head, check_lines}
 use Rattle.checker.specs.declared.lines.Sort.TheVariants.{End, Else, Simple, Again, If}
 use Rattle.checker.specs.declared.limits.Refused.{Refused}
-use Rattle.checker.specs.Lines.{Shape, sort_of, shape_of, close_of}
+use Rattle.words.specs.Reads.{close_of}
+use Rattle.checker.specs.Lines.{Shape, sort_of, shape_of}
 use Rattle.checker.specs.Refusals.{names_in, read, refused_by}
 use Rattle.checker.proofs.Longs.{line_taken, line_refused, map_same}
 use Rattle.checker.proofs.Blocks.{Go, shaped, lines_deep, lines_left, lines_refused, lines_behind, again_bad, again_whole, if_bad, if_whole, if_second, if_both}

@@ -3,7 +3,7 @@ use Rattle.std.proofs.lemmas.List.{length-map, length-take-le}
 use Rattle.std.proofs.lemmas.Result.{err_from_is_err_and, IfOk-at_ok}
 use Rattle.grammar.specs.Check.{taken, check_first}
 use Rattle.words.specs.Words.{unpack}
-use Rattle.checker.specs.Lines.{close_of}
+use Rattle.words.specs.Reads.{close_of}
 use Rattle.checker.specs.Refusals.{map_checked, read}
 use Rattle.checker.specs.Texts.{known_in, first_from}
 use Rattle.checker.proofs.Longs.{line_kept, line_refused, left_same, map_same, refused_of}
