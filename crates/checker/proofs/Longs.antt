@@ -4,7 +4,7 @@ use Rattle.std.specs.Borrow.{Bor}
 use Rattle.std.specs.List.{list_any}
 use Rattle.std.proofs.lemmas.Bool.{lt-ltb}
 use Rattle.grammar.specs.Syntax.{all}
-use Rattle.grammar.specs.Check.{Checked, taken, refused, overrun, too_long, in_line, line_bytes}
+use Rattle.grammar.specs.Check.{Checked, taken, refused, overrun, excess, too_long, in_line, line_bytes}
 use Rattle.checker.specs.declared.limits.Refused.{Refused}
 use Rattle.checker.specs.Refusals.{map_checked, number_of, refused_by, read, outcome}
 
@@ -84,3 +84,19 @@ left_same f F (taken a c) (taken b d) e = let q : c ≡ d = cc in ap (λ r. take
 left_same f F (taken a c) (refused m d) e = absurd (let z : ◌≡◌ {A = ℕ} 0 1 = cc in omega arith)
 left_same f F (refused n c) (taken b d) e = absurd (let z : ◌≡◌ {A = ℕ} 0 1 = cc in omega arith)
 left_same f F (refused n c) (refused m d) e = let p : n ≡ m = cc in let q : c ≡ d = cc in ap₂ refused p q
+
+-- Where one line is too many, it is refused as the code refuses it.
+pub one_over : {A B C : Type 0} (f : A → B) (bs : List ℕ) (g : Checked A) (R : Result (B × Bor (List ℕ)) Refused) (x : Refused) → map_checked f g ≡ read R →
+    refused_by x ≡ overrun 0 bs (outcome R) → excess {B = C} bs g ≡ refused_by x
+one_over {A} {B} {C} f bs (taken a c) (Ok y) x e h = let p : ◌≡◌ {A = ℕ} 4 (number_of x.rule) = cc in let q : bs ≡ x.from.now = cc in ap₂ refused p q
+one_over {A} {B} {C} f bs (taken a c) (Err y) x e h = absurd (let z : ◌≡◌ {A = ℕ} 0 1 = cc in omega arith)
+one_over {A} {B} {C} f bs (refused n c) (Ok y) x e h = absurd (let z : ◌≡◌ {A = ℕ} 0 1 = cc in omega arith)
+one_over {A} {B} {C} f bs (refused n c) (Err y) x e h =
+    let p : n ≡ number_of y.rule = cc in
+    let q : c ≡ y.from.now = cc in
+    ap₂ (λ m d. cond {A = Checked C} (leb (length bs - length d) 0) (refused m d) (refused 4 bs)) p q ∙ last (leb (length bs - length y.from.now) 0) h
+  where
+    last : (u : Bool) → refused_by x ≡ cond {A = Checked (B × Bor (List ℕ))} u (refused (number_of y.rule) y.from.now) (refused 4 bs) →
+        cond {A = Checked C} u (refused (number_of y.rule) y.from.now) (refused 4 bs) ≡ refused_by x
+    last true h = let p : number_of y.rule ≡ number_of x.rule = cc in let q : y.from.now ≡ x.from.now = cc in ap₂ refused p q
+    last false h = let p : ◌≡◌ {A = ℕ} 4 (number_of x.rule) = cc in let q : bs ≡ x.from.now = cc in ap₂ refused p q
