@@ -56,7 +56,7 @@ rest_all (suc n) (v ∷ ws) (inr h) = absurd (omega (arith, eqb-true (length (v 
 
 -- What is written of an expression that opens by op; tail stands behind its first word.
 module _ (names : List ℕ) (n : ℕ) (ws tail : List ℕ) (some : n ≡ 0 → ⊥) (left : false ≡ eqb (length ws) 0) (behind : tail ≡ drop 1 ws) where
-  eq_of : (op : ExprOp) → op ≡ expr_op (get_or ws 0 0) → expr_of n ws ≡ expr_by op (expr_of (n - 1)) tail
+  pub eq_of : (op : ExprOp) → op ≡ expr_op (get_or ws 0 0) → expr_of n ws ≡ expr_by op (expr_of (n - 1)) tail
   eq_of op e =
       subst (λ p. expr_of n ws ≡ expr_by p (expr_of (n - 1)) tail) (sym e)
       (subst (λ t. expr_of n ws ≡ expr_by (expr_op (get_or ws 0 0)) (expr_of (n - 1)) t) (sym behind) (expr_step n ws some (some_left (length ws) left)))
@@ -103,12 +103,12 @@ module _ (names : List ℕ) (n : ℕ) (ws tail : List ℕ) (some : n ≡ 0 → �
   unfolding term show_term
   nothing_bytes e = bytes_of Nothing e
 
-  -- Two expressions between parentheses, with a sign between them.
-  pub two_bytes : {b : Binary} {s : ℕ} {middle : List ℕ} → Two b ≡ expr_op (get_or ws 0 0) → s ≡ sign_byte (sign_of b) → middle ≡ (expr_of (n - 1) tail).rest →
-      codes "(" ++ (term_bytes names (n - 1) tail ++ (codes " " ++ ((s ∷ []) ++ (codes " " ++ (term_bytes names (n - 1) middle ++ codes ")"))))) ≡ term_bytes names n ws
-  unfolding show_term
-  two_bytes {b} {s} {middle} e q m =
-      ap (λ x. codes "(" ++ (term_bytes names (n - 1) tail ++ (codes " " ++ ((x ∷ []) ++ (codes " " ++ (term_bytes names (n - 1) middle ++ codes ")")))))) q
-      ∙ ap (λ x. codes "(" ++ (term_bytes names (n - 1) tail ++ (codes " " ++ ((sign_byte (sign_of b) ∷ []) ++ (codes " " ++ (term_bytes names (n - 1) x ++ codes ")")))))) m
-      ∙ ap show_term (sym (term_two (map unpack names) b (expr_of (n - 1) tail).expr (expr_of (n - 1) (expr_of (n - 1) tail).rest).expr))
-      ∙ bytes_of (Two b) e
+-- Two expressions between parentheses, with a sign between them; ws stands behind the first word.
+pub two_bytes : (names : List ℕ) (n : ℕ) (ws : List ℕ) (b : Binary) {s : ℕ} {middle : List ℕ} → s ≡ sign_byte (sign_of b) → middle ≡ (expr_of n ws).rest →
+    show_term (term (map unpack names) (expr_by (Two b) (expr_of n) ws).expr)
+    ≡ codes "(" ++ (term_bytes names n ws ++ (codes " " ++ ((s ∷ []) ++ (codes " " ++ (term_bytes names n middle ++ codes ")")))))
+unfolding show_term
+two_bytes names n ws b {s} {middle} q m =
+    ap show_term (term_two (map unpack names) b (expr_of n ws).expr (expr_of n (expr_of n ws).rest).expr)
+    ∙ ap (λ x. codes "(" ++ (term_bytes names n ws ++ (codes " " ++ ((sign_byte (sign_of b) ∷ []) ++ (codes " " ++ (term_bytes names n x ++ codes ")")))))) (sym m)
+    ∙ ap (λ x. codes "(" ++ (term_bytes names n ws ++ (codes " " ++ ((x ∷ []) ++ (codes " " ++ (term_bytes names n middle ++ codes ")")))))) (sym q)

@@ -6,7 +6,7 @@ use Rattle.checker.specs.declared.Refusal.{Refusal}
 use Rattle.checker.specs.declared.Rule.TheVariants.{Lent}
 use Rattle.body.specs.declared.Binary.{Binary}
 use Rattle.body.specs.declared.Binary.TheVariants as body
-use Rattle.body.specs.Code.{expr_of, body_by, body_of}
+use Rattle.body.specs.Code.{Read, expr_of, body_by, body_of}
 use Rattle.body.specs.declared.LineOp.{LineOp}
 use Rattle.grammar.specs.Syntax.{Sign, plus, minus, times, over as divided, remains, less, equal, Thing, show_term, show_lines, show_kinds, show_things, show_notes, show}
 use Rattle.meaning.specs.Model.{Body, stop, assign, draw, say, send, branch, repeat}
@@ -64,13 +64,13 @@ term_bytes names n ws = show_term (term (map unpack names) (expr_of n ws).expr)
 abbrev pub lines_bytes : List ℕ → ℕ → List ℕ → List ℕ
 lines_bytes names n ws = show_lines (lines (map unpack names) (body_of n ws))
 
--- The expression at the front of ws is written, and rest is what stands behind it.
-pub record WroteTerm (names : List ℕ) (n : ℕ) (ws : List ℕ) (o o' : Out) (rest : List ℕ) : Type 0 where
-  pub spilled : Spilled (term_bytes names n ws) o o'
-  pub rest_is : rest ≡ (expr_of n ws).rest
+-- An expression that was read from words is written, and rest is what stands behind it there.
+pub record WroteTerm (names : List ℕ) (x : Read) (o o' : Out) (rest : List ℕ) : Type 0 where
+  pub spilled : Spilled (show_term (term (map unpack names) x.expr)) o o'
+  pub rest_is : rest ≡ x.rest
 
-abbrev pub Wrote : List ℕ → ℕ → List ℕ → Out → Out → Option (Bor (List ℕ)) → Type 0
-Wrote names n ws o o' r = MatchOption r (Passed (term_bytes names n ws) o o') (λ rest. WroteTerm names n ws o o' rest.now)
+abbrev pub Wrote : List ℕ → Read → Out → Out → Option (Bor (List ℕ)) → Type 0
+Wrote names x o o' r = MatchOption r (Passed (show_term (term (map unpack names) x.expr)) o o') (λ rest. WroteTerm names x o o' rest.now)
 
 -- What stands before the lines of an else: nothing if there are none.
 abbrev pub else_head : Body → List ℕ

@@ -370,16 +370,18 @@ fn note_at(text: &[u8]) -> (u32, u32, u32, &[u8])
 }
 
 // So many messages, which come from outside: from the number behind the last thing.
-fn fill_notes(text: &[u8], things: usize, count: usize, messages: &mut Slots<'_, Message>)
-    requires { messages.old.used ≡ 0 }
-    ensures same { messages.new.items.ghost_name ≡ messages.old.items.ghost_name }
-    ensures is { NotesAt text.now things count messages.old.items.now messages.new.items.now }
+fn fill_notes(text: &[u8], things: usize, count: usize, messages: &mut [Message])
+    ensures { NotesAt text.now things count messages.old messages.new }
 {
     let from = (things % 4294967296) as u32;
+    let mut notes = Slots {
+        items: messages,
+        used: 0,
+    };
     let mut rest = text;
     for k in 0..count {
         let (time, to, number, behind) = note_at(rest);
-        messages.push(Message {
+        notes.push(Message {
             time: time as u64,
             to,
             from,
@@ -436,20 +438,24 @@ fn fill_things<'a>(
     kinds: usize,
     names: &[u64],
     count: usize,
-    processes: &mut Slots<'_, Process>,
-    vars: &mut Slots<'_, u32>,
+    processes: &mut [Process],
+    vars: &mut [u32],
 ) -> &'a [u8]
-    requires processes { processes.old.used ≡ 0 }
-    requires vars { vars.old.used ≡ 0 }
-    ensures same { processes.new.items.ghost_name ≡ processes.old.items.ghost_name }
-    ensures same_vars { vars.new.items.ghost_name ≡ vars.old.items.ghost_name }
-    ensures is { ThingsAt text.now kinds names.now count result.now processes.old.items.now vars.old.items.now processes.new.items.now vars.new.items.now }
+    ensures { ThingsAt text.now kinds names.now count result.now processes.old vars.old processes.new vars.new }
 {
+    let mut things = Slots {
+        items: processes,
+        used: 0,
+    };
+    let mut rows = Slots {
+        items: vars,
+        used: 0,
+    };
     let mut rest = text;
     for _i in 0..count {
         let (name, numbers) = name_at(skip(rest, 6));
-        let (width, behind) = fill_row(numbers, 0, vars, 64);
-        processes.push(Process {
+        let (width, behind) = fill_row(numbers, 0, &mut rows, 64);
+        things.push(Process {
             kind: (kind_of(names, kinds, name) % 4294967296) as u32,
             width,
             seed: 0,
@@ -490,22 +496,28 @@ fn fill_kind<'a>(text: &'a [u8], names: &mut Slots<'_, u64>, code: &mut Slots<'_
 fn fill_kinds<'a>(
     text: &'a [u8],
     count: usize,
-    code: &mut Slots<'_, u32>,
-    kinds: &mut Slots<'_, u32>,
-    names: &mut Slots<'_, u64>,
+    code: &mut [u32],
+    kinds: &mut [u32],
+    names: &mut [u64],
 ) -> &'a [u8]
-    requires code { code.old.used ≡ 0 }
-    requires kinds { kinds.old.used ≡ 0 }
-    requires names { names.old.used ≡ 0 }
-    ensures same_code { code.new.items.ghost_name ≡ code.old.items.ghost_name }
-    ensures same_kinds { kinds.new.items.ghost_name ≡ kinds.old.items.ghost_name }
-    ensures same_names { names.new.items.ghost_name ≡ names.old.items.ghost_name }
-    ensures is { KindsAt text.now count result.now code.old.items.now kinds.old.items.now names.old.items.now code.new.items.now kinds.new.items.now names.new.items.now }
+    ensures { KindsAt text.now count result.now code.old kinds.old names.old code.new kinds.new names.new }
 {
+    let mut words = Slots {
+        items: code,
+        used: 0,
+    };
+    let mut starts = Slots {
+        items: kinds,
+        used: 0,
+    };
+    let mut rows = Slots {
+        items: names,
+        used: 0,
+    };
     let mut rest = text;
     for _i in 0..count {
-        kinds.push((code.used % 4294967296) as u32);
-        rest = fill_kind(rest, names, code);
+        starts.push((words.used % 4294967296) as u32);
+        rest = fill_kind(rest, &mut rows, &mut words);
     }
     rest
 }
@@ -524,41 +536,17 @@ pub fn fill(bytes: &[u8], amounts: Amounts, lent: &mut Lent<'_>)
     ensures is { (t : Text) → IsText bytes.now t → Keeps t → length t.kinds ≡ amounts.kinds → length t.things ≡ amounts.things → length t.notes ≡ amounts.notes →
         roomy t (slices_in lent.old) ≡ true → slices_in lent.new ≡ filled t (slices_in lent.old) }
 {
-    let mut code = Slots {
-        items: &mut *lent.code,
-        used: 0,
-    };
-    let mut kinds = Slots {
-        items: &mut *lent.kinds,
-        used: 0,
-    };
-    let mut names = Slots {
-        items: &mut *lent.names,
-        used: 0,
-    };
-    let mut processes = Slots {
-        items: &mut *lent.processes,
-        used: 0,
-    };
-    let mut vars = Slots {
-        items: &mut *lent.vars,
-        used: 0,
-    };
-    let mut messages = Slots {
-        items: &mut *lent.messages,
-        used: 0,
-    };
-    let things = fill_kinds(bytes, amounts.kinds, &mut code, &mut kinds, &mut names);
-    let names = &mut *names.items;
+    let things = fill_kinds(bytes, amounts.kinds, lent.code, lent.kinds, lent.names);
+    let names = &mut *lent.names;
     let notes = fill_things(
         things,
         amounts.kinds,
         names,
         amounts.things,
-        &mut processes,
-        &mut vars,
+        lent.processes,
+        lent.vars,
     );
-    fill_notes(notes, amounts.things, amounts.notes, &mut messages);
+    fill_notes(notes, amounts.things, amounts.notes, lent.messages);
 }
 
 // Whether lent slices are long enough for a text of that extent.

@@ -3,7 +3,8 @@ ghost use Rattle.std.specs.Prelude.{◌≡◌, ℕ, List, ◌∷◌, [], ◌==�
 ghost use Rattle.words.specs.Words.{unpack};
 ghost use Rattle.text.specs.Named.{digits, digits_upto, kind_text, note_text};
 ghost use Rattle.text.specs.Written.{Writes, Wrote, Opened, WritesText, Written, sign_of, else_head, lines_bytes, held_kind, kind_name, thing_of, kinds_bytes, things_bytes, notes_bytes, text_bytes};
-ghost use Rattle.body.specs.Code.{expr_of, body_of};
+ghost use Rattle.body.specs.Code.{expr_of, expr_by, body_of};
+ghost use Rattle.body.specs.declared.ExprOp.TheVariants.{Two};
 ghost use Rattle.body.specs.declared.Act.TheVariants.{Send};
 ghost use Rattle.body.specs.declared.LineOp.TheVariants.{Do, Branch, Repeat};
 ghost use Rattle.grammar.specs.Syntax.{sign_byte, show_row, show_kinds, show_things, show_notes};
@@ -134,8 +135,9 @@ impl Out<'_> {
     }
 
     // The expression at the front of the code, at most so deep; names has the packed names of the variables. Gives the code behind it.
+    #[cycle(terms)]
     fn write_term<'b>(&mut self, code: &'b [u32], fuel: usize, names: &[u64]) -> Option<&'b [u32]>
-        ensures { Wrote names.now fuel code.now self.old self.new result }
+        ensures { Wrote names.now (expr_of fuel code.now) self.old self.new result }
     {
         if fuel == 0 || code.is_empty() {
             self.write_number(0)?;
@@ -163,21 +165,33 @@ impl Out<'_> {
                 self.write_all(b"now")?;
                 Some(rest)
             }
-            ExprOp::Two(op) => {
-                self.put(b'(')?;
-                let middle = self.write_term(rest, fuel - 1, names)?;
-                self.put(b' ')?;
-                self.put(sign(op))?;
-                self.put(b' ')?;
-                let behind = self.write_term(middle, fuel - 1, names)?;
-                self.put(b')')?;
-                Some(behind)
-            }
+            ExprOp::Two(op) => self.write_two(op, rest, fuel - 1, names),
             ExprOp::Nothing => {
                 self.write_number(0)?;
                 Some(rest)
             }
         }
+    }
+
+    // An operation on two expressions, behind its first word.
+    #[cycle(terms)]
+    fn write_two<'b>(
+        &mut self,
+        op: Binary,
+        code: &'b [u32],
+        fuel: usize,
+        names: &[u64],
+    ) -> Option<&'b [u32]>
+        ensures { Wrote names.now (expr_by (Two op) (expr_of fuel) code.now) self.old self.new result }
+    {
+        self.put(b'(')?;
+        let middle = self.write_term(code, fuel, names)?;
+        self.put(b' ')?;
+        self.put(sign(op))?;
+        self.put(b' ')?;
+        let behind = self.write_term(middle, fuel, names)?;
+        self.put(b')')?;
+        Some(behind)
     }
 
     // A send, whose code has when, to whom and what, and whose text has these the other way round.
