@@ -12,6 +12,7 @@ mod limits;
 mod lines;
 mod texts;
 
+pub use limits::{Refused, TOO_LARGE, check_below};
 pub use texts::{Extent, check};
 
 // Which rule a refusal is by: the form of a text; a name that isn't there, or is there twice; a number that is too large, or a count or a thing
