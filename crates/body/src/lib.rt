@@ -425,7 +425,7 @@ fn measure(code: &[u32], event: Event, seed: u32, vars: &[u32]) -> Tally
     frame.tally
 }
 
-// What the process does with a message. In a refusal nothing lent has changed.
+// What the process does with a message. In a refusal nothing lent has changed. The slices stand side by side, since callers lend parts of theirs.
 pub fn handle(
     code: &[u32],
     processes: u32,

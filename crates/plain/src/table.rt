@@ -19,7 +19,7 @@ pub struct Example {
     pub end: u32,
 }
 
-// kind 0, no variables
+// kind 0, no variables; written out, since a constant cannot be a call of default()
 const BARE: Process = Process {
     kind: 0,
     width: 0,

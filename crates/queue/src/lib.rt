@@ -1,5 +1,6 @@
 // Messages that wait, in a row that the caller lends: the first `len` places are in use, and the last in use is the
-// first to be handled. So taking the first moves nothing, and putting one in moves only those that come before it.
+// first to be handled. So taking the first moves nothing, and putting one in moves only those that come before it. The length stands beside
+// the row and not with it in a struct: callers in C lend the row, and read the length in a struct of theirs.
 #![tactic(auto)]
 
 ghost use Rattle.std.specs.Prelude.{◌≡◌, ◌+◌, ◌<◌, length, MatchOption, MatchResult};
@@ -13,7 +14,8 @@ use meaning::Message;
 #[derive(Clone, Copy, Debug, PartialEq, Eq)]
 pub struct Full;
 
-// Whether a is handled before b: by time, then to whom, then from whom, then count.
+// Whether a is handled before b: by time, then to whom, then from whom, then count. No Ord: two messages with one key may carry other
+// numbers, and are not equal.
 pub fn is_before(a: Message, b: Message) -> bool
     ensures { result ≡ before a b }
 {

@@ -67,7 +67,8 @@ fn start_all(processes: &mut [Process], luck: u32)
     }
 }
 
-// The start of a run: seeds, nothing sent or said, and the messages from outside in their order. In a refusal nothing lent has changed.
+// The start of a run: seeds, nothing sent or said, and the messages from outside in their order. In a refusal nothing lent has changed. No
+// method of `Lent`, which would ask for variables and lines.
 pub fn begin(
     processes: &mut [Process],
     row: &mut [Message],
@@ -122,7 +123,8 @@ fn width_of(process: Process) -> usize
     WIDTH.min(process.width as usize)
 }
 
-// What the process that m is for does with it; where there is no such process, nobody does it. In a refusal nothing lent has changed.
+// What the process that m is for does with it; where there is no such process, nobody does it. In a refusal nothing lent has changed. The
+// slices stand side by side: of a struct's fields no two parts can be lent in one call.
 fn handle_in(
     program: Program<'_>,
     processes: &mut [Process],
@@ -169,7 +171,7 @@ fn handle_in(
     done
 }
 
-// Why a run stops at a refused message, where so many lines have been said before.
+// Why a run stops at a refused message, where so many lines have been said before. No From: the refusal alone does not tell.
 fn outcome_of(refusal: Refusal, said: usize) -> Outcome
     ensures { result ≡ outcome_of refusal said }
 {

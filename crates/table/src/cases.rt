@@ -58,6 +58,7 @@ fn unescape(line: &[u8]) -> (u8, &[u8])
 fn unescape_all(heap: Global, line: &[u8]) -> Result<Vec<u8>, AllocError> {
     let mut out = Vec::new(heap);
     let mut rest = line;
+    // How many bytes a step takes depends on the bytes.
     while !rest.is_empty() {
         let (b, behind) = unescape(rest);
         out.push(b)?;

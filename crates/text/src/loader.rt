@@ -58,6 +58,7 @@ impl<T: Copy> Slots<'_, T> {
     }
 }
 
+// A match, since of what `unwrap_or_else` gives the check proves neither arm.
 fn word_at(text: &[u8]) -> (Word, &[u8])
     ensures { WordAt text.now result.0 result.1.now }
 {
@@ -67,6 +68,7 @@ fn word_at(text: &[u8]) -> (Word, &[u8])
     }
 }
 
+// So here.
 pub fn name_at(text: &[u8]) -> (u64, &[u8])
     ensures { NameAt text.now result.0 result.1.now }
 {
@@ -96,7 +98,7 @@ fn place_of(names: &[u64], name: u64) -> usize
     }
 }
 
-// The operation of a sign.
+// The operation of a sign. No From<u8> for ExprOp: a crate implements std's traits for its own types only.
 fn operation(sign: u8) -> ExprOp
     ensures { expr_word result ≡ sign_word sign }
 {
@@ -417,7 +419,8 @@ fn fill_row<'a, T: Entry>(
     (width + 1, rest)
 }
 
-// The place of a kind among the first so many, each with its name in front of 64 others.
+// The place of a kind among the first so many, each with its name in front of 64 others. A chain over chunks of 65 would have no row for
+// the kinds that short slices leave out, which count as nameless here.
 fn kind_of(names: &[u64], count: usize, name: u64) -> usize
     ensures is { result ≡ place_of name (firsts count names.now) }
     ensures inside { result ≤ count }

@@ -86,6 +86,7 @@ pub fn play_model<W: Write, F: FnMut(u64) -> io::Result<()>>(
         progress: &mut progress,
     };
     let mut count = 0u64;
+    // Up to the end of the run, which no count of pieces tells before.
     for _piece in 0..u64::MAX {
         let report = lent.run(program, sends.as_mut_slice(), settings.end, BUDGET);
         let said = lent.progress.said;
