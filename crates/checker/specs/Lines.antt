@@ -6,7 +6,6 @@ use Rattle.words.specs.declared.Word.{Word}
 use Rattle.checker.specs.declared.lines.Sort.{Sort}
 use Rattle.checker.specs.declared.lines.Sort.TheVariants.{End, Else, Simple, Again, If}
 use Rattle.checker.specs.declared.lines.Closing.{Closing}
-use Rattle.checker.specs.declared.lines.Ended.{Ended}
 
 -- What sort of line it is.
 abbrev pub sort_of : Head → Sort
@@ -50,5 +49,5 @@ abbrev pub close_of : Closing → Close
 close_of Closing.End = by_end
 close_of Closing.Else = by_else
 
-abbrev pub shape_of : Ended → Shape
-shape_of e = record { close = close_of e.by; left = e.left }
+abbrev pub shape_of : Closing × ℕ → Shape
+shape_of e = record { close = close_of e.0; left = e.1 }
