@@ -6,7 +6,7 @@ use Rattle.words.specs.declared.Word.{Word}
 use Rattle.words.specs.Reads.{close_of}
 use Rattle.checker.specs.declared.lines.Sort.{Sort}
 use Rattle.checker.specs.declared.lines.Sort.TheVariants.{End, Else, Simple, Again, If}
-use Rattle.checker.specs.declared.lines.Ended.{Ended}
+use Rattle.words.specs.declared.Closing.{Closing}
 
 -- What sort of line it is.
 abbrev pub sort_of : Head → Sort
@@ -46,5 +46,5 @@ pub record Shape : Type 0 where
 abbrev pub shape : Block → Shape
 shape b = record { close = b.close; left = b.left }
 
-abbrev pub shape_of : Ended → Shape
-shape_of e = record { close = close_of e.by; left = e.left }
+abbrev pub shape_of : Closing × ℕ → Shape
+shape_of e = record { close = close_of e.0; left = e.1 }

@@ -230,21 +230,14 @@ fn none_left<'a>(text: &'a [u8], scope: Scope) -> Refused<'a>
     cut_off(text, 0, check_head(text, scope))
 }
 
-// Lines by how they close, and how many lines may still come.
-#[derive(Clone, Copy)]
-pub struct Ended {
-    pub by: Closing,
-    pub left: usize,
-}
-
-// Lines up to the end that closes them, or the else, if that may be: so many of them may come. The recursion goes no deeper than most, which is
-// more than may come.
+// Lines up to the end that closes them, or the else, if that may be, of which so many may come: how they close, and how many may still come. The
+// recursion goes no deeper than most, which is more than may come.
 pub fn check_lines<'a>(
     text: &'a [u8],
     scope: Scope,
     most: usize,
     left: usize,
-) -> Result<(Ended, &'a [u8]), Refused<'a>>
+) -> Result<((Closing, usize), &'a [u8]), Refused<'a>>
     ensures { map_checked shape (check_lines (names_in scope.entry.names.now) most left scope.entry.deep scope.entry.or_else text.now) ≡ map_checked shape_of (read result) }
 {
     if most == 0 {
@@ -262,18 +255,12 @@ pub fn check_lines<'a>(
         or_else: false,
     };
     match sort {
-        Sort::End => {
-            let by = Closing::End;
-            Ok((Ended { by, left }, rest))
-        }
-        Sort::Else => {
-            let by = Closing::Else;
-            Ok((Ended { by, left }, rest))
-        }
+        Sort::End => Ok(((Closing::End, left), rest)),
+        Sort::Else => Ok(((Closing::Else, left), rest)),
         Sort::Simple => check_lines(rest, scope, next, left),
         Sort::Again => {
-            let (inner, rest) = check_lines(rest, body, next, left)?;
-            check_lines(rest, scope, next, inner.left)
+            let ((_, left), rest) = check_lines(rest, body, next, left)?;
+            check_lines(rest, scope, next, left)
         }
         Sort::If => {
             let branch = Scope {
@@ -281,12 +268,12 @@ pub fn check_lines<'a>(
                 deep: body.deep,
                 or_else: true,
             };
-            let (first, rest) = check_lines(rest, branch, next, left)?;
-            match first.by {
-                Closing::End => check_lines(rest, scope, next, first.left),
+            let ((by, left), rest) = check_lines(rest, branch, next, left)?;
+            match by {
+                Closing::End => check_lines(rest, scope, next, left),
                 Closing::Else => {
-                    let (second, rest) = check_lines(rest, body, next, first.left)?;
-                    check_lines(rest, scope, next, second.left)
+                    let ((_, left), rest) = check_lines(rest, body, next, left)?;
+                    check_lines(rest, scope, next, left)
                 }
             }
         }

@@ -145,8 +145,8 @@ fn check_kind<'a>(
         deep: DEEP,
         or_else: false,
     };
-    let (lines, rest) = check_lines(rest, scope, LINES + 1, left - 1)?;
-    Ok(((kind, lines.left), rest))
+    let ((_, left), rest) = check_lines(rest, scope, LINES + 1, left - 1)?;
+    Ok(((kind, left), rest))
 }
 
 // Where a row breaks off: a number before that was too large comes first.

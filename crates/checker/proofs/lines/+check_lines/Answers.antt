@@ -3,8 +3,8 @@ use Rattle.std.proofs.lemmas.Result.{err_from_is_err_and}
 use Rattle.grammar.specs.Check.{check_head, check_lines}
 use Rattle.checker.specs.declared.lines.Sort.TheVariants.{End, Else, Simple, Again, If}
 use Rattle.checker.specs.declared.limits.Refused.{Refused}
+use Rattle.checker.specs.Lines.{Shape, sort_of}
 use Rattle.words.specs.Reads.{close_of}
-use Rattle.checker.specs.Lines.{Shape, sort_of, shape_of}
 use Rattle.checker.specs.Refusals.{names_in, read, refused_by}
 use Rattle.checker.proofs.Longs.{line_taken, line_refused, map_same}
 use Rattle.checker.proofs.Blocks.{Go, shaped, lines_deep, lines_left, lines_refused, lines_behind, again_bad, again_whole, if_bad, if_whole, if_second, if_both}
@@ -58,8 +58,8 @@ returns-in-Simple t c =
     let head = lines_behind names c.args.left s.deep s.or_else bs c.args.most c.in_ok-sort.sort Simple c.in_ok-sort.rest.now c.if-most-eq0.false c.if-left-eq0.false e c.in-Simple.is in
     head ∙ c.check_lines.ensures
 
-pub returns-in_err-inner-in-Again : goal.returns-in_err-inner-in-Again
-returns-in_err-inner-in-Again t c =
+pub returns-in_err-left-in-Again : goal.returns-in_err-left-in-Again
+returns-in_err-left-in-Again t c =
     let s = c.args.scope in
     let names = names_in s.names.now in
     let bs = c.args.text.now in
@@ -67,11 +67,11 @@ returns-in_err-inner-in-Again t c =
     let head = lines_behind names c.args.left s.deep s.or_else bs c.args.most c.in_ok-sort.sort Again c.in_ok-sort.rest.now c.if-most-eq0.false c.if-left-eq0.false e c.in-Again.is in
     let go : Go = λ l d e q. shaped (check_lines names (c.args.most - 1) l d e q) in
     let i : c.saturating_sub.result ≡ s.deep - 1 = search rules in
-    let p = err_from_is_err_and c.from_residual-in_err-inner-in-Again.result c.from_residual-in_err-inner-in-Again.ensures.1 in
-    rw (p.1, p.2) (head ∙ again_bad go (c.args.left - 1) s.deep c.saturating_sub.result s.or_else c.in_ok-sort.rest.now i _ _ c.in_err-inner-in-Again.ensures)
+    let p = err_from_is_err_and c.from_residual-in_err-left-in-Again.result c.from_residual-in_err-left-in-Again.ensures.1 in
+    rw (p.1, p.2) (head ∙ again_bad go (c.args.left - 1) s.deep c.saturating_sub.result s.or_else c.in_ok-sort.rest.now i _ _ c.in_err-left-in-Again.ensures)
 
-pub returns-in_ok-inner-in-Again : goal.returns-in_ok-inner-in-Again
-returns-in_ok-inner-in-Again t c =
+pub returns-in_ok-left-in-Again : goal.returns-in_ok-left-in-Again
+returns-in_ok-left-in-Again t c =
     let s = c.args.scope in
     let names = names_in s.names.now in
     let bs = c.args.text.now in
@@ -80,11 +80,11 @@ returns-in_ok-inner-in-Again t c =
     let go : Go = λ l d e q. shaped (check_lines names (c.args.most - 1) l d e q) in
     let i : c.saturating_sub.result ≡ s.deep - 1 = search rules in
     head
-    ∙ again_whole go (c.args.left - 1) s.deep c.saturating_sub.result s.or_else c.in_ok-sort.rest.now i (shape_of c.in_ok-inner-in-Again.inner) c.in_ok-inner-in-Again.rest.now _ c.in_ok-inner-in-Again.ensures
+    ∙ again_whole go (c.args.left - 1) s.deep c.saturating_sub.result s.or_else c.in_ok-sort.rest.now i _ c.in_ok-left-in-Again.rest.now _ c.in_ok-left-in-Again.ensures
     c.check_lines-in-Again-2.ensures
 
-pub returns-in_err-first-in-If : goal.returns-in_err-first-in-If
-returns-in_err-first-in-If t c =
+pub returns-in_err-by-in-If : goal.returns-in_err-by-in-If
+returns-in_err-by-in-If t c =
     let s = c.args.scope in
     let names = names_in s.names.now in
     let bs = c.args.text.now in
@@ -92,8 +92,8 @@ returns-in_err-first-in-If t c =
     let head = lines_behind names c.args.left s.deep s.or_else bs c.args.most c.in_ok-sort.sort If c.in_ok-sort.rest.now c.if-most-eq0.false c.if-left-eq0.false e c.in-If.is in
     let go : Go = λ l d e q. shaped (check_lines names (c.args.most - 1) l d e q) in
     let i : c.saturating_sub.result ≡ s.deep - 1 = search rules in
-    let p = err_from_is_err_and c.from_residual-in_err-first-in-If.result c.from_residual-in_err-first-in-If.ensures.1 in
-    rw (p.1, p.2) (head ∙ if_bad go (c.args.left - 1) s.deep c.saturating_sub.result s.or_else c.in_ok-sort.rest.now i _ _ c.in_err-first-in-If.ensures)
+    let p = err_from_is_err_and c.from_residual-in_err-by-in-If.result c.from_residual-in_err-by-in-If.ensures.1 in
+    rw (p.1, p.2) (head ∙ if_bad go (c.args.left - 1) s.deep c.saturating_sub.result s.or_else c.in_ok-sort.rest.now i _ _ c.in_err-by-in-If.ensures)
 
 pub returns-in-End-by : goal.returns-in-End-by
 returns-in-End-by t c =
@@ -104,13 +104,12 @@ returns-in-End-by t c =
     let head = lines_behind names c.args.left s.deep s.or_else bs c.args.most c.in_ok-sort.sort If c.in_ok-sort.rest.now c.if-most-eq0.false c.if-left-eq0.false e c.in-If.is in
     let go : Go = λ l d e q. shaped (check_lines names (c.args.most - 1) l d e q) in
     let i : c.saturating_sub.result ≡ s.deep - 1 = search rules in
-    let first = c.in_ok-first-in-If.first in
     head
-    ∙ if_whole go (c.args.left - 1) s.deep c.saturating_sub.result s.or_else c.in_ok-sort.rest.now i (close_of first.by) first.left c.in_ok-first-in-If.rest.now c.in_ok-first-in-If.ensures _ (ap close_of c.in-End-by.is)
+    ∙ if_whole go (c.args.left - 1) s.deep c.saturating_sub.result s.or_else c.in_ok-sort.rest.now i (close_of c.in_ok-by-in-If.by) c.in_ok-by-in-If.left c.in_ok-by-in-If.rest.now c.in_ok-by-in-If.ensures _ (ap close_of c.in-End-by.is)
     c.check_lines-in-End-by.ensures
 
-pub returns-in_err-second-in-Else-by : goal.returns-in_err-second-in-Else-by
-returns-in_err-second-in-Else-by t c =
+pub returns-in_err-left-in-Else-by : goal.returns-in_err-left-in-Else-by
+returns-in_err-left-in-Else-by t c =
     let s = c.args.scope in
     let names = names_in s.names.now in
     let bs = c.args.text.now in
@@ -118,15 +117,14 @@ returns-in_err-second-in-Else-by t c =
     let head = lines_behind names c.args.left s.deep s.or_else bs c.args.most c.in_ok-sort.sort If c.in_ok-sort.rest.now c.if-most-eq0.false c.if-left-eq0.false e c.in-If.is in
     let go : Go = λ l d e q. shaped (check_lines names (c.args.most - 1) l d e q) in
     let i : c.saturating_sub.result ≡ s.deep - 1 = search rules in
-    let first = c.in_ok-first-in-If.first in
-    let p = err_from_is_err_and c.from_residual-in_err-second-in-Else-by.result c.from_residual-in_err-second-in-Else-by.ensures.1 in
+    let p = err_from_is_err_and c.from_residual-in_err-left-in-Else-by.result c.from_residual-in_err-left-in-Else-by.ensures.1 in
     rw (p.1, p.2)
     (head
-    ∙ if_second go (c.args.left - 1) s.deep c.saturating_sub.result s.or_else c.in_ok-sort.rest.now i (close_of first.by) first.left c.in_ok-first-in-If.rest.now c.in_ok-first-in-If.ensures _ _ (ap close_of c.in-Else-by.is)
-    c.in_err-second-in-Else-by.ensures)
+    ∙ if_second go (c.args.left - 1) s.deep c.saturating_sub.result s.or_else c.in_ok-sort.rest.now i (close_of c.in_ok-by-in-If.by) c.in_ok-by-in-If.left c.in_ok-by-in-If.rest.now c.in_ok-by-in-If.ensures _ _ (ap close_of c.in-Else-by.is)
+    c.in_err-left-in-Else-by.ensures)
 
-pub returns-in_ok-second-in-Else-by : goal.returns-in_ok-second-in-Else-by
-returns-in_ok-second-in-Else-by t c =
+pub returns-in_ok-left-in-Else-by : goal.returns-in_ok-left-in-Else-by
+returns-in_ok-left-in-Else-by t c =
     let s = c.args.scope in
     let names = names_in s.names.now in
     let bs = c.args.text.now in
@@ -134,7 +132,6 @@ returns-in_ok-second-in-Else-by t c =
     let head = lines_behind names c.args.left s.deep s.or_else bs c.args.most c.in_ok-sort.sort If c.in_ok-sort.rest.now c.if-most-eq0.false c.if-left-eq0.false e c.in-If.is in
     let go : Go = λ l d e q. shaped (check_lines names (c.args.most - 1) l d e q) in
     let i : c.saturating_sub.result ≡ s.deep - 1 = search rules in
-    let first = c.in_ok-first-in-If.first in
     head
-    ∙ if_both go (c.args.left - 1) s.deep c.saturating_sub.result s.or_else c.in_ok-sort.rest.now i (close_of first.by) first.left c.in_ok-first-in-If.rest.now c.in_ok-first-in-If.ensures (shape_of c.in_ok-second-in-Else-by.second)
-    c.in_ok-second-in-Else-by.rest.now _ (ap close_of c.in-Else-by.is) c.in_ok-second-in-Else-by.ensures c.check_lines-in-Else-by-2.ensures
+    ∙ if_both go (c.args.left - 1) s.deep c.saturating_sub.result s.or_else c.in_ok-sort.rest.now i (close_of c.in_ok-by-in-If.by) c.in_ok-by-in-If.left c.in_ok-by-in-If.rest.now c.in_ok-by-in-If.ensures _
+    c.in_ok-left-in-Else-by.rest.now _ (ap close_of c.in-Else-by.is) c.in_ok-left-in-Else-by.ensures c.check_lines-in-Else-by-2.ensures

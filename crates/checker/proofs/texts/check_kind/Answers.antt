@@ -3,7 +3,6 @@ use Rattle.std.proofs.lemmas.List.{length-map, length-take-le}
 use Rattle.std.proofs.lemmas.Result.{err_from_is_err_and, IfOk-at_ok}
 use Rattle.grammar.specs.Check.{taken, check_first}
 use Rattle.words.specs.Words.{unpack}
-use Rattle.words.specs.Reads.{close_of}
 use Rattle.checker.specs.Refusals.{map_checked, read}
 use Rattle.checker.specs.Texts.{known_in, first_from}
 use Rattle.checker.proofs.Longs.{line_kept, line_refused, left_same, map_same, refused_of}
@@ -35,15 +34,15 @@ slice_bounds-scope-end c =
     let n : c.in_ok-kind.kind.count ≤ length c.check_first-first.new.names = omega (arith, f, c.check_first-first.auto.names) in
     sym (length-take-le c.in_ok-kind.kind.count c.check_first-first.new.names n)
 
-pub returns-in_err-lines : goal.returns-in_err-lines
-returns-in_err-lines c =
+pub returns-in_err-left : goal.returns-in_err-left
+returns-in_err-left c =
     let ks = known_in c.args.kinds.now in
     let bs = c.args.text.now in
     let ps = c.check_first-first.new.names in
     let k = line_kept bs c.check_first-first.result (c.in_ok-kind.kind, c.in_ok-kind.rest) c.in_ok-kind.ensures (check_first ks bs) in
     let h = k.1 ∙ c.check_first-first.ensures.answers ∙ ap (λ r. map_checked (first_from ps) (read r)) k.0 in
-    let p = err_from_is_err_and c.from_residual-in_err-lines.result c.from_residual-in_err-lines.ensures.1 in
-    rw (p.1, p.2) (kind_broken ks c.args.left bs (first_from ps c.in_ok-kind.kind) c.in_ok-kind.rest.now _ _ c.if-left-eq0.false h c.in_err-lines.ensures)
+    let p = err_from_is_err_and c.from_residual-in_err-left.result c.from_residual-in_err-left.ensures.1 in
+    rw (p.1, p.2) (kind_broken ks c.args.left bs (first_from ps c.in_ok-kind.kind) c.in_ok-kind.rest.now _ _ c.if-left-eq0.false h c.in_err-left.ensures)
 
 pub returns : goal.returns
 returns c =
@@ -55,5 +54,5 @@ returns c =
     let h = k.1 ∙ c.check_first-first.ensures.answers ∙ ap (λ r. map_checked (first_from ps) (read r)) k.0 in
     let f = IfOk-at_ok (λ k. k.0.count ≤ 64) k.0 c.check_first-first.ensures.fits in
     let n : kind.count ≤ length ps = omega (arith, f, c.check_first-first.auto.names) in
-    kind_whole ks c.args.left bs (first_from ps kind) c.in_ok-kind.rest.now (close_of c.in_ok-lines.lines.by) c.in_ok-lines.lines.left c.in_ok-lines.rest.now c.if-left-eq0.false h c.in_ok-lines.ensures
-    ∙ ap (λ m. taken (record { kind = record { name = unpack kind.name; count = m }; left = c.in_ok-lines.lines.left }) c.in_ok-lines.rest.now) (length-map (take kind.count ps) unpack ∙ length-take-le kind.count ps n)
+    kind_whole ks c.args.left bs (first_from ps kind) c.in_ok-kind.rest.now _ c.in_ok-left.left c.in_ok-left.rest.now c.if-left-eq0.false h c.in_ok-left.ensures
+    ∙ ap (λ m. taken (record { kind = record { name = unpack kind.name; count = m }; left = c.in_ok-left.left }) c.in_ok-left.rest.now) (length-map (take kind.count ps) unpack ∙ length-take-le kind.count ps n)
