@@ -1,9 +1,9 @@
 // The meaning as a program: a step, and a run with a budget, over lent slices.
 #![tactic(auto)]
 
-ghost use Rattle.std.specs.Prelude.{◌≡◌, ℕ, ◌*◌, ◌<◌, ◌≤◌, min, List, length, MatchBool, MatchOption, MatchResult};
+ghost use Rattle.std.specs.Prelude.{◌≡◌, ℕ, ◌*◌, ◌<◌, ◌≤◌, min, List, length, take, MatchBool, MatchOption, MatchResult};
 ghost use Rattle.body.specs.Play.{answer};
-ghost use Rattle.sequential.specs.Memory.{RowInOrder, Begun, Unbegun, unready, started, code_of, done_in, Did, Untouched, SameLent, memory_in, Shaped, Stepped, RunIn, NotRun, model_of, state_of, shaped, stops, outcome_of};
+ghost use Rattle.sequential.specs.Memory.{RowInOrder, Begun, Unbegun, unready, started, code_of, done_in, Did, Untouched, SameLent, memory, memory_in, Shaped, Stepped, RunIn, NotRun, model_of, state_of, shaped, stops, outcome_of};
 ghost use Rattle.std.specs.Result.{result_err};
 ghost use Rattle.queue.specs.Row.{Taken, Untaken};
 
@@ -255,6 +255,21 @@ impl Lent<'_> {
             }
             Err(refusal) => Some(outcome_of(refusal, said)),
         }
+    }
+
+    // The lines that were said and not forgotten.
+    pub fn said(&self) -> &[Line]
+        ensures { result.now ≡ take self.now.progress.now.said self.now.lines.now }
+    {
+        self.lines.get(..self.progress.said).unwrap_or(self.lines)
+    }
+
+    // Forgets the lines that were said, as once they are printed.
+    pub fn forget(&mut self)
+        ensures same { SameLent self.old self.new }
+        ensures forgets { memory_in self.new ≡ memory self.old.processes.now self.old.vars.now self.old.row.now self.old.lines.now (record { waiting = self.old.progress.now.waiting; said = 0 }) }
+    {
+        self.progress.said = 0;
     }
 
     // A run of at most budget steps: it stops where nothing is left before the end or the next message cannot be handled. What sends holds

@@ -25,3 +25,4 @@ mod Sizes
 mod Fills
 mod Holds
 mod Loads
+mod Onward

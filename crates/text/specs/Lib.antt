@@ -10,3 +10,4 @@ pub mod Parts
 pub mod Tables
 pub mod Promise
 pub mod Loaded
+pub mod Played

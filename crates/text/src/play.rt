@@ -1,5 +1,7 @@
 // A text is played: it is read, and what its model says is written line by line.
-ghost use Rattle.std.specs.Prelude.{◌≡◌};
+ghost use Rattle.std.specs.Prelude.{◌≡◌, IfOk};
+ghost use Rattle.sequential.specs.Memory.{SameLent, memory_in};
+ghost use Rattle.text.specs.Played.{Onward, Played};
 ghost use Rattle.text.specs.Asked.{settled};
 
 use super::stage::{Failure, open};
@@ -48,8 +50,38 @@ pub fn settle(asked: Asked) -> Result<Settings, Refusal>
     })
 }
 
-// Plays a model from its start to its end, or as far as it can be: writes the lines that it says as they come, and tells from time to
+// Plays on from where memory stands to the end, or as far as it can be: writes the lines that are said as they come, and tells from time to
 // time how many messages have been handled.
+fn play_on<W: Write, F: FnMut(u64) -> io::Result<()>>(
+    lent: &mut Lent<'_>,
+    program: Program<'_>,
+    sends: &mut [Message],
+    end: u32,
+    out: &mut W,
+    mut handled: F,
+) -> io::Result<Outcome>
+    requires { F.IsAlwaysCallable handled }
+    ensures same { SameLent lent.old lent.new }
+    ensures plays { IfOk result (λ _. Onward program.entry.code.now program.entry.kinds.now end (memory_in lent.old) (memory_in lent.new)) }
+{
+    let mut count = 0u64;
+    // Up to the end of the run, which no count of pieces tells before.
+    for _piece in 0..u64::MAX {
+        let report = lent.run(program, sends, end, BUDGET);
+        for line in lent.said() {
+            writeln!(out, "{line}")?;
+        }
+        lent.forget();
+        if report.outcome != Outcome::Paused {
+            return Ok(report.outcome);
+        }
+        count = count.saturating_add(report.steps);
+        handled(count)?;
+    }
+    Ok(Outcome::Paused)
+}
+
+// Plays a model so, from its start.
 pub fn play_model<W: Write, F: FnMut(u64) -> io::Result<()>>(
     heap: Global,
     program: Program<'_>,
@@ -58,49 +90,35 @@ pub fn play_model<W: Write, F: FnMut(u64) -> io::Result<()>>(
     outside: &[Message],
     settings: Settings,
     out: &mut W,
-    mut handled: F,
+    handled: F,
 ) -> io::Result<Outcome>
     requires { F.IsAlwaysCallable handled }
+    ensures { IfOk result (λ _. Played program.entry.code.now program.entry.kinds.now settings outside.now processes.old vars.old processes.new vars.new) }
 {
     let places = settings.places as usize;
     let mut row = vec![in heap; Message::default(); places]?;
     let mut sends = vec![in heap; Message::default(); places]?;
     let mut lines = vec![in heap; Line::default(); places]?;
     let mut progress = Progress::default();
-    if begin(
-        processes,
-        row.as_mut_slice(),
-        &mut progress,
-        settings.luck,
-        outside,
-    )
-    .is_err()
-    {
+    let row = row.as_mut_slice();
+    let Ok(()) = begin(processes, row, &mut progress, settings.luck, outside) else {
         return Ok(Outcome::Waiting);
-    }
+    };
     let mut lent = Lent {
         processes,
         vars,
-        row: row.as_mut_slice(),
+        row,
         lines: lines.as_mut_slice(),
         progress: &mut progress,
     };
-    let mut count = 0u64;
-    // Up to the end of the run, which no count of pieces tells before.
-    for _piece in 0..u64::MAX {
-        let report = lent.run(program, sends.as_mut_slice(), settings.end, BUDGET);
-        let said = lent.progress.said;
-        for line in lent.lines.iter().take(said) {
-            writeln!(out, "{line}")?;
-        }
-        lent.progress.said = 0;
-        if report.outcome != Outcome::Paused {
-            return Ok(report.outcome);
-        }
-        count = count.saturating_add(report.steps);
-        handled(count)?;
-    }
-    Ok(Outcome::Paused)
+    play_on(
+        &mut lent,
+        program,
+        sends.as_mut_slice(),
+        settings.end,
+        out,
+        handled,
+    )
 }
 
 // Plays a text so.
