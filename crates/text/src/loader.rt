@@ -61,19 +61,13 @@ impl<T: Copy> Slots<'_, T> {
 fn word_at(text: &[u8]) -> (Word, &[u8])
     ensures { WordAt text.now result.0 result.1.now }
 {
-    match words::read_word(text) {
-        Ok(read) => read,
-        Err(rest) => (Word::Name(0), rest),
-    }
+    words::read_word(text).unwrap_or_else(|rest| (Word::Name(0), rest))
 }
 
 pub fn name_at(text: &[u8]) -> (u64, &[u8])
     ensures { NameAt text.now result.0 result.1.now }
 {
-    match words::read_name(text) {
-        Ok(read) => read,
-        Err(rest) => (0, rest),
-    }
+    words::read_name(text).unwrap_or_else(|rest| (0, rest))
 }
 
 pub fn number_at(text: &[u8]) -> (u32, &[u8])
@@ -90,13 +84,10 @@ fn place_of(names: &[u64], name: u64) -> usize
     ensures is { result ≡ place_of name names.now }
     ensures inside { result ≤ length names.now }
 {
-    match position_of(names, name) {
-        Some(k) => k,
-        None => names.len(),
-    }
+    position_of(names, name).unwrap_or(names.len())
 }
 
-// The operation of a sign.
+// The operation of a sign: a match on the signs of the language.
 fn operation(sign: u8) -> ExprOp
     ensures { expr_word result ≡ sign_word sign }
 {
@@ -417,7 +408,8 @@ fn fill_row<'a, T: Entry>(
     (width + 1, rest)
 }
 
-// The place of a kind among the first so many, each with its name in front of 64 others.
+// The place of a kind among the first so many, each with its name in front of 64 others. A loop, since a kind whose row is missing counts too:
+// chunks of 65 names would end before it.
 fn kind_of(names: &[u64], count: usize, name: u64) -> usize
     ensures is { result ≡ place_of name (firsts count names.now) }
     ensures inside { result ≤ count }

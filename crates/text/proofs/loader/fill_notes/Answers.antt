@@ -19,4 +19,4 @@ loop-k-preserved c = (
 pub returns : goal.returns
 returns c =
     let same = c.loop-k.invariant.0 in
-    λ ns e s g h l. ◌∙◌ {b = c.loop-k.notes.items.now} (search rules) ( ap (λ r. r.items) (notes_done c.loop-k.rest.now c.args.things c.loop-k.k c.args.count ns (row_in c.loop-k.notes) (row_of 0 c.args.messages.now) c.loop-k-test.false (c.loop-k.invariant.1 ns e s g h l)))
+    λ ns e s g h l. ◌∙◌ {b = c.loop-k.notes.items.now} (search rules) (ap (λ r. r.items) (notes_done c.loop-k.rest.now c.args.things c.loop-k.k c.args.count ns (row_in c.loop-k.notes) (row_of 0 c.args.messages.now) c.loop-k-test.false (c.loop-k.invariant.1 ns e s g h l)))
