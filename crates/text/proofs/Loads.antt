@@ -1,13 +1,11 @@
 -- From what a check of bytes answers to what is loaded.
-use Rattle.std.proofs.Common.{◌≡◌, ℕ, ◌*◌, ◌≤◌, true, false, ◌&&◌, leb, List, [], ◌∷◌, length, drop, Ok, Err, codes, sym, refl, ap, ◌∙◌, inl, inr, arith, length-append}
+use Rattle.std.proofs.Common.{◌≡◌, ℕ, ◌*◌, ◌≤◌, true, false, ◌&&◌, leb, List, [], ◌∷◌, length, Ok, Err, codes, sym, refl, ap, ◌∙◌, inr, arith, length-append}
 use Rattle.grammar.specs.Syntax.{Kind, Text, IsText, show_kinds}
 use Rattle.grammar.specs.Check.{Checked, taken, refused, check}
 use Rattle.grammar.specs.Rules.{Keeps, lines_of, kind_lines}
 use Rattle.grammar.proofs.Exact.{taken_exactly}
-use Rattle.checker.specs.declared.Refusal.{Refusal}
 use Rattle.checker.specs.declared.Rule.TheVariants.{Lent}
 use Rattle.checker.specs.declared.texts.Extent.{Extent}
-use Rattle.checker.specs.Refusals.{number_of}
 use Rattle.checker.specs.Texts.{Answered, Measures}
 use Rattle.text.specs.Slices.{Slices, filled, roomy, held, used}
 use Rattle.text.specs.Loaded.{Loaded, roomy_for}
@@ -48,16 +46,6 @@ same_room t e s m = by e.lines e.kinds e.things e.notes m.lines m.kinds m.things
         (leb a (length s.code) && (leb b (length s.kinds) && (leb (65 * b) (length s.names) && (leb c (length s.processes) && (leb (64 * c) (length s.vars) && leb d (length s.messages))))))
         ≡ roomy t s
     by a b c d p q r u = cc
-
-pub refuses : (bs : List ℕ) (s : Slices) (f : Refusal) → Answered bs (Err f) (check bs) → Loaded bs s s (Err f)
-refuses bs s f h = go (check bs) refl h
-  where
-    go : (g : Checked Text) → check bs ≡ g → Answered bs (Err f) g → Loaded bs s s (Err f)
-    go (taken t c) q m = absurd m
-    go (refused n c) q m =
-        let a : n ≡ number_of f.rule = sym m.rule in
-        let b : c ≡ drop f.place bs = m.rest in
-        (refl, inl (cc, m.inside))
 
 pub too_short : (bs : List ℕ) (e : Extent) (s : Slices) → TextOf bs e → false ≡ roomy_for e s → Loaded bs s s (Err (record { rule = Lent; place = 4 }))
 too_short bs e s x h = (refl, inr (x.tree, x.checked, sym (h ∙ same_room x.tree e s x.measures), refl))

@@ -1,8 +1,7 @@
 -- Laws of bytes written at a place.
-use Rattle.std.proofs.Common.{◌≡◌, ℕ, zero, suc, ◌+◌, ◌<◌, ◌≤◌, MatchOption, leb, List, [], ◌∷◌, ◌++◌, length, set, Some, None, Ok, Err, Option, sym, refl, ap, ◌∙◌, subst, add-zero, suc-add, zero-add, arith}
+use Rattle.std.proofs.Common.{◌≡◌, ℕ, zero, suc, ◌+◌, ◌<◌, ◌≤◌, MatchOption, leb, List, [], ◌∷◌, ◌++◌, length, set, Some, None, Ok, Option, sym, refl, ap, ◌∙◌, subst, add-zero, suc-add, zero-add, arith}
 use Rattle.std.proofs.lemmas.List.{length-append, append-nil, append_assoc}
-use Rattle.std.proofs.lemmas.Bool.{cond-true, cond-false, le-leb, lt-leb}
-use Rattle.checker.specs.declared.Rule.TheVariants.{Lent}
+use Rattle.std.proofs.lemmas.Bool.{cond-true, le-leb}
 use Rattle.text.specs.Slices.{over}
 use Rattle.text.specs.Written.{spill, Spilled, Passed, Writes, Ahead, WritesText, Written}
 use Rattle.text.specs.declared.writer.Out.{Out}
@@ -141,7 +140,3 @@ written_all {bs} {out} {out'} {n} (Some k) e h f =
       answers = ap (λ m. Ok m) e ∙ sym (cond-true (leb (length bs) (length out)) _ _ (le-leb _ _ l));
       holds = f.2 ∙ spill_over bs out l ∙ sym (cond-true (leb (length bs) (length out)) _ _ (le-leb _ _ l));
     }
-
-pub written_none : {bs out : List ℕ} → length out < length bs → Written bs out out (Err (record { rule = Lent; place = 4 }))
-written_none {bs} {out} h =
-    record { answers = sym (cond-false (leb (length bs) (length out)) _ _ (lt-leb _ _ h)); holds = sym (cond-false (leb (length bs) (length out)) _ _ (lt-leb _ _ h)) }

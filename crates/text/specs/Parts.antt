@@ -34,6 +34,7 @@ NameAt = ReadAt is_name pack
 abbrev pub is_small : List ℕ → Bool
 is_small ds = is_number ds && small ds
 
+-- A number, by its digits.
 abbrev pub NumberAt : List ℕ → ℕ → List ℕ → Type 0
 NumberAt = ReadAt is_small (decimal 0)
 

@@ -58,24 +58,16 @@ impl<T: Copy> Slots<'_, T> {
     }
 }
 
-// A match, since of what `unwrap_or_else` gives the check proves neither arm.
 fn word_at(text: &[u8]) -> (Word, &[u8])
     ensures { WordAt text.now result.0 result.1.now }
 {
-    match words::read_word(text) {
-        Ok(read) => read,
-        Err(rest) => (Word::Name(0), rest),
-    }
+    words::read_word(text).unwrap_or_else(|rest| (Word::Name(0), rest))
 }
 
-// So here.
 pub fn name_at(text: &[u8]) -> (u64, &[u8])
     ensures { NameAt text.now result.0 result.1.now }
 {
-    match words::read_name(text) {
-        Ok(read) => read,
-        Err(rest) => (0, rest),
-    }
+    words::read_name(text).unwrap_or_else(|rest| (0, rest))
 }
 
 pub fn number_at(text: &[u8]) -> (u32, &[u8])
@@ -92,10 +84,7 @@ fn place_of(names: &[u64], name: u64) -> usize
     ensures is { result ≡ place_of name names.now }
     ensures inside { result ≤ length names.now }
 {
-    match position_of(names, name) {
-        Some(k) => k,
-        None => names.len(),
-    }
+    position_of(names, name).unwrap_or(names.len())
 }
 
 // The operation of a sign. No From<u8> for ExprOp: a crate implements std's traits for its own types only.
@@ -419,8 +408,8 @@ fn fill_row<'a, T: Entry>(
     (width + 1, rest)
 }
 
-// The place of a kind among the first so many, each with its name in front of 64 others. A chain over chunks of 65 would have no row for
-// the kinds that short slices leave out, which count as nameless here.
+// The place of a kind among the first so many, each with its name in front of 64 others. A loop, since a kind whose row is missing counts too:
+// chunks of 65 names would end before it.
 fn kind_of(names: &[u64], count: usize, name: u64) -> usize
     ensures is { result ≡ place_of name (firsts count names.now) }
     ensures inside { result ≤ count }

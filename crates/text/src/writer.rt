@@ -99,7 +99,7 @@ impl Out<'_> {
         Some(())
     }
 
-    // The word that a packed one stands for.
+    // The word that a packed one stands for. A loop that divides, since bytes of 0 may stand within: it ends where only they are left.
     pub fn write_name(&mut self, packed: u64) -> Option<()>
         ensures { Writes (unpack packed) self.old self.new result }
     {
