@@ -484,7 +484,7 @@ fn fill_kind<'a>(text: &'a [u8], names: &mut Slots<'_, u64>, code: &mut Slots<'_
     skip(end, 4)
 }
 
-// So many kinds.
+// So many kinds, into the three slices that kinds take; no struct of them, which nothing else would use.
 fn fill_kinds<'a>(
     text: &'a [u8],
     count: usize,

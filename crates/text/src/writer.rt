@@ -318,6 +318,7 @@ impl Out<'_> {
         self.put(b'\n')
     }
 
+    // One loop for messages, things and kinds would take a trait for what comes of each, and be longer than the three.
     fn write_notes(&mut self, messages: &[Message]) -> Option<()>
         ensures { Writes (notes_bytes messages.now) self.old self.new result }
     {
