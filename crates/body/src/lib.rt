@@ -425,7 +425,8 @@ fn measure(code: &[u32], event: Event, seed: u32, vars: &[u32]) -> Tally
     frame.tally
 }
 
-// What the process does with a message. In a refusal nothing lent has changed. The slices stand side by side, since callers lend parts of theirs.
+// What the process does with a message. In a refusal nothing lent has changed. The slices stand side by side: callers lend parts
+// of theirs, which a struct made for the call would only pass on.
 pub fn handle(
     code: &[u32],
     processes: u32,

@@ -1,5 +1,5 @@
 // Whether bytes are a text that is taken, and else the refusal. A function answers what it read and the bytes behind it; or which rule is broken,
-// and the bytes from there on. Here are rules and refusals; `limits` has what ends too early or is too large, `lines` the lines of a kind, `texts`
+// and the bytes from there on. Here are rules and refusals; `limits` has what is refused and what is too large, `lines` the lines of a kind, `texts`
 // kinds, things, messages and whole texts.
 #![tactic(auto)]
 

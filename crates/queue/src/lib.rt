@@ -1,6 +1,6 @@
 // Messages that wait, in a row that the caller lends: the first `len` places are in use, and the last in use is the
 // first to be handled. So taking the first moves nothing, and putting one in moves only those that come before it. The length stands beside
-// the row and not with it in a struct: callers in C lend the row, and read the length in a struct of theirs.
+// the row: it is a field of a struct that callers in C lend, so that a struct of both would be made anew for each call.
 #![tactic(auto)]
 
 ghost use Rattle.std.specs.Prelude.{◌≡◌, ◌+◌, ◌<◌, length, MatchOption, MatchResult};

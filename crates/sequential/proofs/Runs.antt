@@ -98,7 +98,7 @@ steps_only false code kinds end budget sends y S r y' S' h = record { refused = 
 -- What is lent stays the same through no step, and through two that keep it.
 pub same_at_first : (l : Lent) → SameLent l l
 same_at_first l =
-    record { processes = refl; vars = refl; row = refl; lines = refl; progress = refl; row_places = refl; line_places = refl }
+    record { processes = refl; vars = refl; row = refl; lines = refl; progress = refl; process_places = refl; var_places = refl; row_places = refl; line_places = refl }
 
 pub same_then : {k l m : Lent} → SameLent k l → SameLent l m → SameLent k m
 same_then s t =
@@ -108,6 +108,8 @@ same_then s t =
       row = t.row ∙ s.row;
       lines = t.lines ∙ s.lines;
       progress = t.progress ∙ s.progress;
+      process_places = t.process_places ∙ s.process_places;
+      var_places = t.var_places ∙ s.var_places;
       row_places = t.row_places ∙ s.row_places;
       line_places = t.line_places ∙ s.line_places;
     }

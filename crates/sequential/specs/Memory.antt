@@ -83,6 +83,8 @@ pub record SameLent (l l' : Lent) : Type 0 where
   pub row : l'.row.ghost_name ≡ l.row.ghost_name
   pub lines : l'.lines.ghost_name ≡ l.lines.ghost_name
   pub progress : l'.progress.ghost_name ≡ l.progress.ghost_name
+  pub process_places : length l'.processes.now ≡ length l.processes.now
+  pub var_places : length l'.vars.now ≡ length l.vars.now
   pub row_places : length l'.row.now ≡ length l.row.now
   pub line_places : length l'.lines.now ≡ length l.lines.now
 

@@ -124,7 +124,7 @@ fn width_of(process: Process) -> usize
 }
 
 // What the process that m is for does with it; where there is no such process, nobody does it. In a refusal nothing lent has changed. The
-// slices stand side by side: of a struct's fields no two parts can be lent in one call.
+// slices stand side by side: as a method of `Lent` it would have to say how the part of the lines that is lent lies in the whole.
 fn handle_in(
     program: Program<'_>,
     processes: &mut [Process],

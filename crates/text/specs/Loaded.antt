@@ -15,7 +15,7 @@ use Rattle.text.specs.Slices.{Slices, slices, filled, roomy, held, used}
 abbrev pub slices_in : Lent → Slices
 slices_in l = slices l.code.now l.kinds.now l.names.now l.processes.now l.vars.now l.messages.now
 
--- The same lent slices, whatever they hold.
+-- The same lent slices, as long as they were, whatever they hold.
 pub record SameLent (l m : Lent) : Type 0 where
   pub code : m.code.ghost_name ≡ l.code.ghost_name
   pub kinds : m.kinds.ghost_name ≡ l.kinds.ghost_name
@@ -23,6 +23,12 @@ pub record SameLent (l m : Lent) : Type 0 where
   pub processes : m.processes.ghost_name ≡ l.processes.ghost_name
   pub vars : m.vars.ghost_name ≡ l.vars.ghost_name
   pub messages : m.messages.ghost_name ≡ l.messages.ghost_name
+  pub code_places : length m.code.now ≡ length l.code.now
+  pub kind_places : length m.kinds.now ≡ length l.kinds.now
+  pub name_places : length m.names.now ≡ length l.names.now
+  pub process_places : length m.processes.now ≡ length l.processes.now
+  pub var_places : length m.vars.now ≡ length l.vars.now
+  pub message_places : length m.messages.now ≡ length l.messages.now
 
 -- Whether lent slices are long enough, by the extent of a text.
 abbrev pub roomy_for : Extent → Slices → Bool

@@ -59,6 +59,8 @@ returns-in-Ok-clause-same c =
       row = refl;
       lines = refl;
       progress = refl;
+      process_places = c.handle_in.auto.processes;
+      var_places = c.handle_in.auto.vars;
       row_places = c.insert_all.auto.row;
       line_places = search rules;
     }
