@@ -172,10 +172,10 @@ fn apply(op: Binary, a: u32, b: u32) -> u32
         Binary::Plus => ((x + y) % WHOLE) as u32,
         Binary::Minus => ((x + (WHOLE - y)) % WHOLE) as u32,
         Binary::Times => (x * y % WHOLE) as u32,
-        Binary::Over => if b == 0 { 0 } else { a / b },
-        Binary::Remains => if b == 0 { 0 } else { a % b },
-        Binary::Less => if a < b { 1 } else { 0 },
-        Binary::Same => if a == b { 1 } else { 0 },
+        Binary::Over => a.checked_div(b).unwrap_or(0),
+        Binary::Remains => a.checked_rem(b).unwrap_or(0),
+        Binary::Less => u32::from(a < b),
+        Binary::Same => u32::from(a == b),
     }
 }
 
@@ -277,14 +277,14 @@ fn place<T: Copy>(row: &mut [T], at: u64, x: T)
 fn drawn_below(seed: u32, n: u32) -> u32
     ensures { result ≡ drawn seed n }
 {
-    if n == 0 { 0 } else { seed / 65536 % n }
+    (seed / 65536).checked_rem(n).unwrap_or(0)
 }
 
 // The message that a process sends at an event, if it has sent k at it before.
 fn message_of(event: Event, k: u64, delay: u32, to: u32, number: u32) -> Message
     ensures { result ≡ letter event k delay to number }
 {
-    let later = if delay == 0 { 1 } else { delay };
+    let later = delay.max(1);
     Message {
         time: event.clock as u64 + later as u64,
         to,

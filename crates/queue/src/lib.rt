@@ -37,9 +37,7 @@ pub fn take_first(row: &[Message], len: &mut usize) -> Option<Message>
         (λ x. Taken x row.now len.old len.new) }
     ensures in_order { Sorted (waiting row.now len.old) → Sorted (waiting row.now len.new) }
 {
-    let Some(x) = first(row, *len) else {
-        return None;
-    };
+    let x = first(row, *len)?;
     *len -= 1;
     Some(x)
 }

@@ -420,11 +420,7 @@ pub fn write(model: Model<'_>, out: &mut [u8]) -> Result<usize, Refusal>
     ensures { Written (text_bytes model.entry.code.now model.entry.kinds.now model.entry.names.now model.entry.processes.now model.entry.vars.now model.entry.messages.now) out.old out.new result }
 {
     let limit = out.len();
-    match write_text(model, &mut [], limit) {
-        None => Err(Rule::Lent.refusal(4)),
-        Some(n) => {
-            write_text(model, out, limit);
-            Ok(n)
-        }
-    }
+    let n = write_text(model, &mut [], limit).ok_or(Rule::Lent.refusal(4))?;
+    write_text(model, out, limit);
+    Ok(n)
 }

@@ -6,9 +6,9 @@ use Rattle.queue.proofs.Take.{taken}
 
 pub returns : goal.returns
 returns c =
-    let t = taken c.args.row.now c.args.len.now c.in-Some.x c.in-Some.ensures in
+    let t = taken c.args.row.now c.args.len.now c.in_ok-x.x c.in_ok-x.ensures in
     record {
-      first = c.in-Some.ensures;
+      first = c.in_ok-x.ensures;
       left = t;
       in_order = λ s. sorted_rest _ _ (subst Sorted t.was_first s);
     }
