@@ -312,7 +312,10 @@ fn check_whole(text: &[u8]) -> Result<Extent, Refused<'_>>
     if text.len() <= BYTES {
         return whole;
     }
-    Err(cut_off(text, BYTES, whole))
+    match whole {
+        Ok(_) => Err(Rule::Limit.at(&text[BYTES..])),
+        Err(_) => Err(cut_off(text, BYTES, whole)),
+    }
 }
 
 // Whether the bytes are a text that keeps all rules, and how large it is; else the first refusal.

@@ -15,11 +15,15 @@ use meaning::Message;
 pub struct Full;
 
 // Whether a is handled before b: by time, then to whom, then from whom, then count. No Ord: two messages with one key may carry other
-// numbers, and are not equal.
+// numbers, and are not equal. The time stands by itself, since `place` asks for each message that it moves, and times mostly differ.
 pub fn is_before(a: Message, b: Message) -> bool
     ensures { result ≡ before a b }
 {
-    (a.time, a.to, a.from, a.count) < (b.time, b.to, b.from, b.count)
+    if a.time != b.time {
+        a.time < b.time
+    } else {
+        (a.to, a.from, a.count) < (b.to, b.from, b.count)
+    }
 }
 
 // The first to be handled.

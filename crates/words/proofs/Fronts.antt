@@ -1,7 +1,7 @@
 -- Literals, words, numbers and signs at the front of bytes, by how far they go.
-use Rattle.std.proofs.Common.{◌≡◌, ℕ, zero, suc, ◌+◌, ◌<◌, ◌≤◌, Bool, true, false, cond, eqb, List, [], ◌∷◌, ◌++◌, length, get_or, take, drop, Some, None, Option, sym, refl, ap, ◌∙◌, append_assoc, append-nil, arith}
+use Rattle.std.proofs.Common.{⊎_elim, ◌≡◌, ℕ, zero, suc, ◌+◌, ◌<◌, ◌≤◌, Bool, true, false, cond, eqb, List, [], ◌∷◌, ◌++◌, length, get_or, take, drop, Some, None, Option, sym, refl, ap, ◌∙◌, append_assoc, append-nil, arith}
 use Rattle.std.proofs.lemmas.List.{drop_more, drop_all}
-use Rattle.std.proofs.lemmas.Bool.{eq-eqb, ne_eqb, eqb-true, both_ways, cond-true, cond-false, cond_both}
+use Rattle.std.proofs.lemmas.Bool.{cases_Bool, eq-eqb, ne_eqb, eqb-true, both_ways, cond-true, cond-false, cond_both}
 use Rattle.std.specs.List.{prefix_len}
 use Rattle.grammar.specs.Syntax.{is_letter, is_digit, in_word, plus, minus, times, over, remains, less, equal}
 use Rattle.grammar.specs.Parse.{Got, got, bad, expect, more_word, read_word, more_digits, after_zero, read_number, read_sign}
@@ -76,12 +76,24 @@ number_none (b ∷ bs) n e z =
     (λ t. absurd (omega (arith, first_in is_digit b bs n e (ap is_digit (eqb-true b 48 t)))))
     (λ t. cond_both (is_digit b) (more_digits (b ∷ []) bs) (bad (b ∷ bs)) (λ g. g ≡ bad (b ∷ bs)) (λ d. absurd (omega (arith, first_in is_digit b bs n e d))) (λ d. refl))
 
-pub number_zero : (bs : List ℕ) (n : ℕ) → n ≡ prefix_len is_digit bs → 1 < n → get_or bs 0 0 ≡ 48 → read_number bs ≡ bad (drop 1 bs)
+pub number_zero : (bs : List ℕ) → 1 < length bs → get_or bs 0 0 ≡ 48 → is_digit (get_or bs 1 0) ≡ true → read_number bs ≡ bad (drop 1 bs)
 unfolding read_number
-number_zero [] n e h z = absurd (omega arith)
-number_zero (b ∷ bs) n e h z =
-    let m = first_in is_digit b bs n e (ap is_digit z) in
-    cond-true (eqb b 48) _ _ (eq-eqb b 48 z) ∙ zero_goes_on bs (prefix_len is_digit bs) refl (omega arith)
+number_zero [] h z d = absurd (omega arith)
+number_zero (b ∷ []) h z d = absurd (omega arith)
+number_zero (b ∷ c ∷ bs) h z d =
+    let m = first_in is_digit c bs (prefix_len is_digit (c ∷ bs)) refl d in
+    cond-true (eqb b 48) _ _ (eq-eqb b 48 z) ∙ zero_goes_on (c ∷ bs) (prefix_len is_digit (c ∷ bs)) refl (omega (arith, m))
+
+-- Where more than one digit stands in front, the second byte is one.
+pub second_digit : (bs : List ℕ) (n : ℕ) → n ≡ prefix_len is_digit bs → 1 < n → is_digit (get_or bs 1 0) ≡ true
+second_digit [] n e h = absurd (omega arith)
+second_digit (b ∷ []) n e h =
+    ⊎_elim (λ t. absurd (omega (arith, first_in is_digit b [] n e t))) (λ f. absurd (omega (arith, first_out is_digit b [] n e f))) (cases_Bool (is_digit b))
+second_digit (b ∷ c ∷ bs) n e h =
+    ⊎_elim (λ t. t)
+    (λ f. ⊎_elim (λ t. absurd (omega (arith, first_in is_digit b (c ∷ bs) n e t, first_out is_digit c bs (prefix_len is_digit (c ∷ bs)) refl f)))
+    (λ g. absurd (omega (arith, first_out is_digit b (c ∷ bs) n e g))) (cases_Bool (is_digit b)))
+    (cases_Bool (is_digit c))
 
 pub number_some : (bs : List ℕ) (n : ℕ) → n ≡ prefix_len is_digit bs → (n ≡ 0 → ⊥) → (1 < n → get_or bs 0 0 ≡ 48 → ⊥) → read_number bs ≡ got (take n bs) (drop n bs)
 unfolding read_number

@@ -188,16 +188,16 @@ pub fn read_name<'a>(text: &'a [u8]) -> Read<'a, u64>
     }
 }
 
-// The digits of a number, with no 0 before others.
+// The digits of a number, with no 0 before others: where there is one, no more are looked at.
 pub fn read_number<'a>(text: &'a [u8]) -> Read<'a, &'a [u8]>
     ensures { read_number text.now ≡ map_got (λ d. d.now) (read result) }
 {
+    if text.len() > 1 && text[0] == b'0' && text[1].is_ascii_digit() {
+        return Err(&text[1..]);
+    }
     let len = digits_len(text);
     if len == 0 {
         return Err(text);
-    }
-    if len > 1 && text[0] == b'0' {
-        return Err(&text[1..]);
     }
     Ok(text.split_at(len))
 }

@@ -4,6 +4,10 @@ use Rattle.std.proofs.lemmas.Bool.Decides.{nat_tests}
 use Rattle.meaning.specs.Model.{before}
 use Rattle.queue.proofs.is_before.Goals as goal
 
-pub returns : goal.returns
+pub returns-then-a-b : goal.returns-then-a-b
 unfolding before
-returns c = let e = c.lt.ensures in grind (arith, nat_tests, e)
+returns-then-a-b c = grind (arith, nat_tests)
+
+pub returns-else-a-b : goal.returns-else-a-b
+unfolding before
+returns-else-a-b c = let e = c.lt.ensures in grind (arith, nat_tests, e)
