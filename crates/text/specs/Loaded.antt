@@ -8,6 +8,8 @@ use Rattle.checker.specs.declared.Rule.TheVariants as rule
 use Rattle.checker.specs.declared.texts.Extent.{Extent}
 use Rattle.checker.specs.Refusals.{number_of}
 use Rattle.text.specs.declared.loader.Lent.{Lent}
+use Rattle.text.specs.declared.stage.Failure.{Failure}
+use Rattle.text.specs.declared.stage.Failure.TheVariants.{Refused, Memory, Io}
 use Rattle.text.specs.Named.{named}
 use Rattle.text.specs.Slices.{Slices, slices, filled, roomy, held, used}
 
@@ -55,3 +57,9 @@ Why bs s f =
 abbrev pub Loaded : List ℕ → Slices → Slices → Result Extent Refusal → Type 0
 Loaded bs s s' (Ok e) = (t : Text) × TakenIn bs s s' e t
 Loaded bs s s' (Err f) = (s' ≡ s) × Why bs s f
+
+-- Why a text is not opened: it is refused, as by reading it into some slices; or there was no memory.
+abbrev pub Unopened : List ℕ → Failure → Type 0
+Unopened bs (Refused f) = (s : Slices) × Why bs s f
+Unopened bs (Memory e) = Unit {0}
+Unopened bs (Io e) = ⊥

@@ -15,6 +15,9 @@ use Rattle.body.specs.declared.Process.{Process}
 use Rattle.meaning.specs.declared.Message.{Message}
 use Rattle.sequential.specs.Memory.{body_from}
 use Rattle.text.specs.Named.{NamedKind, digits, term, lines, kind_text, note_text, text_of}
+use Rattle.text.specs.declared.stage.Failure.{Failure}
+use Rattle.text.specs.declared.stage.Failure.TheVariants.{Refused, Memory, Io}
+use Rattle.text.specs.Asked.{lent}
 use Rattle.text.specs.Slices.{over, names_of, held_kinds, held_things, held_note, held, slices}
 
 -- What lent bytes are once others are written from a place on; those for which there is no place are left out.
@@ -132,3 +135,10 @@ after bs out = cond (nat_le (length bs) (length out)) (over bs out) out
 pub record Written (bs out out' : List ℕ) (r : Result ℕ Refusal) : Type 0 where
   pub answers : r ≡ answer bs out
   pub holds : out' ≡ after bs out
+
+-- Why a text is not written into bytes of its own: it takes more of them than are allowed, and is refused as where they are lent; or there
+-- was no memory.
+abbrev pub Unwritten : List ℕ → ℕ → Failure → Type 0
+Unwritten bs most (Refused r) = (r ≡ lent 4) × (most < length bs)
+Unwritten bs most (Memory e) = Unit {0}
+Unwritten bs most (Io e) = ⊥

@@ -1,7 +1,7 @@
 // A text is played: it is read, and what its model says is written line by line.
-ghost use Rattle.std.specs.Prelude.{◌≡◌, IfOk};
+ghost use Rattle.std.specs.Prelude.{◌≡◌, length, IfErr, IfOk};
 ghost use Rattle.sequential.specs.Memory.{SameLent, memory_in};
-ghost use Rattle.text.specs.Played.{Onward, Played};
+ghost use Rattle.text.specs.Played.{PlayedOn, Played, Unplayed};
 ghost use Rattle.text.specs.Asked.{settled};
 
 use super::stage::{Failure, open};
@@ -11,10 +11,13 @@ use meaning::{Line, Message};
 use sequential::{Lent, Outcome, Program, Progress, begin};
 use std::alloc::Global;
 use std::io;
-use std::io::Write;
+use std::io::{Cursor, Write};
 
 // Messages handled between two prints.
 const BUDGET: u64 = 65536;
+
+// The most bytes of a line with its end: numbers of 20, 10 and 10 digits.
+const LONGEST: usize = 43;
 
 // What is given with a text: the end, the luck, and the places for messages and for lines.
 #[derive(Clone, Copy, Debug, PartialEq, Eq)]
@@ -50,6 +53,14 @@ pub fn settle(asked: Asked) -> Result<Settings, Refusal>
     })
 }
 
+// A line is written whole, by one write: where the output is not buffered, who reads beside never sees a part of it.
+fn write_line<W: Write>(out: &mut W, line: Line) -> io::Result<()> {
+    let mut whole = Cursor::new([0; LONGEST]);
+    writeln!(whole, "{line}")?;
+    let end = whole.position() as usize;
+    out.write_all(whole.get_ref().get(..end).unwrap_or(&[]))
+}
+
 // Plays on from where memory stands to the end, or as far as it can be: writes the lines that are said as they come, and tells from time to
 // time how many messages have been handled.
 fn play_on<W: Write, F: FnMut(u64) -> io::Result<()>>(
@@ -60,16 +71,17 @@ fn play_on<W: Write, F: FnMut(u64) -> io::Result<()>>(
     out: &mut W,
     mut handled: F,
 ) -> io::Result<Outcome>
-    requires { F.IsAlwaysCallable handled }
+    requires callable { F.IsAlwaysCallable handled }
+    requires unsaid { lent.old.progress.now.said ≡ 0 }
     ensures same { SameLent lent.old lent.new }
-    ensures plays { IfOk result (λ _. Onward program.entry.code.now program.entry.kinds.now end (memory_in lent.old) (memory_in lent.new)) }
+    ensures plays { IfOk result (λ o. PlayedOn program.entry.code.now program.entry.kinds.now end (length sends.old) (memory_in lent.old) (memory_in lent.new) o) }
 {
     let mut count = 0u64;
     // Up to the end of the run, which no count of pieces tells before.
     for _piece in 0..u64::MAX {
         let report = lent.run(program, sends, end, BUDGET);
         for line in lent.said() {
-            writeln!(out, "{line}")?;
+            write_line(out, *line)?;
         }
         lent.forget();
         if report.outcome != Outcome::Paused {
@@ -91,9 +103,10 @@ pub fn play_model<W: Write, F: FnMut(u64) -> io::Result<()>>(
     settings: Settings,
     out: &mut W,
     handled: F,
-) -> io::Result<Outcome>
+) -> Result<Outcome, Failure>
     requires { F.IsAlwaysCallable handled }
-    ensures { IfOk result (λ _. Played program.entry.code.now program.entry.kinds.now settings outside.now processes.old vars.old processes.new vars.new) }
+    ensures played { IfOk result (λ o. Played program.entry.code.now program.entry.kinds.now settings outside.now processes.old vars.old processes.new vars.new o) }
+    ensures fails { IfErr result Unplayed }
 {
     let places = settings.places as usize;
     let mut row = vec![in heap; Message::default(); places]?;
@@ -111,14 +124,15 @@ pub fn play_model<W: Write, F: FnMut(u64) -> io::Result<()>>(
         lines: lines.as_mut_slice(),
         progress: &mut progress,
     };
-    play_on(
+    let outcome = play_on(
         &mut lent,
         program,
         sends.as_mut_slice(),
         settings.end,
         out,
         handled,
-    )
+    )?;
+    Ok(outcome)
 }
 
 // Plays a text so.
@@ -136,7 +150,7 @@ pub fn play<W: Write, F: FnMut(u64) -> io::Result<()>>(
         code: stage.code.as_slice(),
         kinds: stage.kinds.as_slice(),
     };
-    let outcome = play_model(
+    play_model(
         heap,
         program,
         stage.processes.as_mut_slice(),
@@ -145,6 +159,5 @@ pub fn play<W: Write, F: FnMut(u64) -> io::Result<()>>(
         settings,
         out,
         handled,
-    )?;
-    Ok(outcome)
+    )
 }

@@ -1,7 +1,8 @@
 // Memory for a text, made as large as any text of so many bytes needs, and the model that it is filled with.
-ghost use Rattle.std.specs.Prelude.{◌≡◌, IfOk};
-ghost use Rattle.text.specs.Written.{text_bytes};
-ghost use Rattle.text.specs.declared.stage.Failure.TheVariants.{Refused};
+ghost use Rattle.std.specs.Prelude.{◌≡◌, IfErr, IfOk};
+ghost use Rattle.text.specs.Loaded.{Unopened};
+ghost use Rattle.text.specs.Written.{text_bytes, Unwritten};
+ghost use Rattle.text.specs.declared.stage.Failure.TheVariants.{Refused, Memory, Io};
 
 use super::{Lent, Model, load, write};
 use body::Process;
@@ -9,6 +10,7 @@ use checker::Refusal;
 use meaning::Message;
 use std::alloc::{AllocError, Global};
 use std::io;
+use thiserror::Error;
 
 // The most bytes of all lines of kinds, so the most words.
 const WORDS: usize = 4194304;
@@ -58,7 +60,8 @@ impl Stage {
 
     // The text of the model, if it takes no more than so many bytes.
     pub fn to_text(&self, heap: Global, most: usize) -> Result<Vec<u8>, Failure>
-        ensures { IfOk result (λ v. v.items ≡ text_bytes self.now.code.items self.now.kinds.items self.now.names.items self.now.processes.items self.now.vars.items self.now.messages.items) }
+        ensures text { IfOk result (λ v. v.items ≡ text_bytes self.now.code.items self.now.kinds.items self.now.names.items self.now.processes.items self.now.vars.items self.now.messages.items) }
+        ensures fails { IfErr result (Unwritten (text_bytes self.now.code.items self.now.kinds.items self.now.names.items self.now.processes.items self.now.vars.items self.now.messages.items) most) }
     {
         let mut out = vec![in heap; 0u8; most]?;
         let count = write(self.model(), out.as_mut_slice())?;
@@ -68,9 +71,13 @@ impl Stage {
 }
 
 // Why a text was not opened or played: it was refused, or there was no memory, or the output failed.
-#[derive(Debug, Drop)]
+#[derive(Debug, Drop, Error)]
 pub enum Failure {
+    #[error("{0}")]
     Refused(Refusal),
+    #[error("{0}")]
+    Memory(AllocError),
+    #[error("{0}")]
     Io(io::Error),
 }
 
@@ -83,14 +90,18 @@ impl From<Refusal> for Failure {
 }
 
 impl From<io::Error> for Failure {
+    ghost from_gives = { λ error failure. failure ≡ Io error };
+
     fn from(error: io::Error) -> Failure {
         Failure::Io(error)
     }
 }
 
 impl From<AllocError> for Failure {
+    ghost from_gives = { λ error failure. failure ≡ Memory error };
+
     fn from(error: AllocError) -> Failure {
-        Failure::Io(error.into())
+        Failure::Memory(error)
     }
 }
 
@@ -110,7 +121,9 @@ fn make_stage(heap: Global, bytes: usize) -> Result<Stage, AllocError> {
 }
 
 // Reads a text into memory of its own.
-pub fn open(heap: Global, text: &[u8]) -> Result<Stage, Failure> {
+pub fn open(heap: Global, text: &[u8]) -> Result<Stage, Failure>
+    ensures { IfErr result (Unopened text.now) }
+{
     let mut stage = make_stage(heap, text.len())?;
     let mut lent = Lent {
         code: stage.code.as_mut_slice(),
