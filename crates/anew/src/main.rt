@@ -35,7 +35,7 @@ fn run(rt: &HostRuntime, heap: Global) -> anyhow::Result<()> {
     match written(heap, bytes.as_slice()) {
         Ok(text) => rt.stdout().write_all(text.as_slice())?,
         Err(Failure::Refused(refusal)) => println!(rt; "{refusal}")?,
-        Err(Failure::Io(error)) => return Err(error.into()),
+        Err(failure) => return Err(failure.into()),
     }
     Ok(())
 }

@@ -7,9 +7,9 @@ mod table;
 
 use sequential::Outcome;
 use std::alloc::{AllocError, Global};
-use std::io;
 use table::Example;
 use text::play::{Given, play_model};
+use text::stage::Failure;
 
 // Places for waiting messages and for lines.
 const PLACES: u32 = 64;
@@ -31,7 +31,7 @@ fn variables(heap: Global, e: Example) -> Result<Vec<u32>, AllocError>
 }
 
 // Plays a model to its end, or as far as it can be.
-fn play(rt: &HostRuntime, heap: Global, e: Example) -> io::Result<Outcome> {
+fn play(rt: &HostRuntime, heap: Global, e: Example) -> Result<Outcome, Failure> {
     let mut processes = Vec::from_slice(heap, e.processes)?;
     let mut vars = variables(heap, e)?;
     let settings = Given {
@@ -51,7 +51,7 @@ fn play(rt: &HostRuntime, heap: Global, e: Example) -> io::Result<Outcome> {
     )
 }
 
-fn play_all(rt: &HostRuntime, heap: Global) -> io::Result<()> {
+fn play_all(rt: &HostRuntime, heap: Global) -> anyhow::Result<()> {
     for e in table::examples() {
         let name = e.name;
         println!(rt; "model {name}")?;
@@ -63,6 +63,6 @@ fn play_all(rt: &HostRuntime, heap: Global) -> io::Result<()> {
     Ok(())
 }
 
-fn main(rt: HostRuntime) -> io::Result<()> {
+fn main(rt: HostRuntime) -> anyhow::Result<()> {
     play_all(&rt, rt.alloc())
 }

@@ -93,7 +93,7 @@ fn run(rt: &HostRuntime, heap: Global) -> anyhow::Result<()> {
         Ok(Outcome::Ended) => println!(rt; "done")?,
         Ok(_) => println!(rt; "not done")?,
         Err(Failure::Refused(refusal)) => println!(rt; "{refusal}")?,
-        Err(Failure::Io(error)) => return Err(error.into()),
+        Err(failure) => return Err(failure.into()),
     }
     Ok(())
 }

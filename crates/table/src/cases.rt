@@ -10,9 +10,16 @@ pub struct Case<'a> {
     pub expected: &'a [u8],
 }
 
-// The cases whose first line begins with the word.
-pub fn cases<'a>(heap: Global, table: &'a [u8], word: &[u8]) -> Result<Vec<Case<'a>>, AllocError> {
-    let mut out = Vec::new(heap);
+// Does something with each case whose first line begins with the word, one at a time: a row of all would take more memory than the table.
+// Behind the end of the last line there is no other.
+pub fn each_case<'a, F: FnMut(Case<'a>) -> anyhow::Result<()>>(
+    table: &'a [u8],
+    word: &[u8],
+    mut each: F,
+) -> anyhow::Result<()>
+    requires { F.IsAlwaysCallable each }
+{
+    let table = table.strip_suffix(b"\n").unwrap_or(table);
     let mut lines = table.split(|b| *b == b'\n');
     while let Some(first) = lines.next() {
         let Some(label) = first.strip_prefix(word) else {
@@ -21,13 +28,13 @@ pub fn cases<'a>(heap: Global, table: &'a [u8], word: &[u8]) -> Result<Vec<Case<
         let (Some(bytes), Some(expected)) = (lines.next(), lines.next()) else {
             break;
         };
-        out.push(Case {
+        each(Case {
             label,
             bytes,
             expected,
         })?;
     }
-    Ok(out)
+    Ok(())
 }
 
 fn hex(b: u8) -> u8 {
@@ -88,18 +95,21 @@ fn repeat(heap: Global, out: &mut Vec<u8>, inside: &[u8]) -> Result<(), AllocErr
     Ok(())
 }
 
-// The bytes that a line stands for: what stands between braces is a repeat.
+// The bytes that a line stands for: what stands between a brace that opens and the next that closes is a repeat.
 pub fn expand(heap: Global, line: &[u8]) -> Result<Vec<u8>, AllocError> {
     let mut out = Vec::new(heap);
-    for (k, part) in line.split(|b| *b == b'{').enumerate() {
-        let mut plain = part;
-        if k > 0 {
-            let (inside, behind) = split_at_first(part, b'}');
-            repeat(heap, &mut out, inside)?;
-            plain = behind.unwrap_or(&[]);
-        }
+    let mut rest = line;
+    // Each turn takes a byte at least, but for a last one with nothing left.
+    for _turn in 0..line.len() {
+        let (plain, opened) = split_at_first(rest, b'{');
         let bytes = unescape_all(heap, plain)?;
         out.extend_from_slice(bytes.as_slice())?;
+        let Some(behind) = opened else {
+            break;
+        };
+        let (inside, closed) = split_at_first(behind, b'}');
+        repeat(heap, &mut out, inside)?;
+        rest = closed.unwrap_or(&[]);
     }
     Ok(out)
 }

@@ -4,10 +4,10 @@
 mod cases;
 
 use anyhow::anyhow;
-use cases::{Case, cases, expand};
+use cases::{each_case, expand};
 use sequential::Outcome;
-use std::alloc::{AllocError, Global};
-use std::{fs, io};
+use std::alloc::Global;
+use std::fs;
 use text::play::{Given, play, settle};
 use text::stage::{Failure, Stage, open};
 
@@ -19,16 +19,16 @@ fn lasts(heap: Global, stage: &Stage, most: usize) -> Result<bool, Failure> {
 }
 
 // The answer to a text: taken, refused, or taken and not the same when written anew.
-fn answer(heap: Global, text: &[u8]) -> io::Result<String> {
+fn answer(heap: Global, text: &[u8]) -> Result<String, Failure> {
     let stage = match open(heap, text) {
         Ok(stage) => stage,
         Err(Failure::Refused(refusal)) => return Ok(format!(in heap; "{refusal}")?),
-        Err(Failure::Io(error)) => return Err(error),
+        Err(failure) => return Err(failure),
     };
     let answer = match lasts(heap, &stage, text.len()) {
         Ok(true) => "taken",
         Ok(false) | Err(Failure::Refused(_)) => "taken, but not as it was written",
-        Err(Failure::Io(error)) => return Err(error),
+        Err(failure) => return Err(failure),
     };
     Ok(String::from_str(heap, answer)?)
 }
@@ -38,21 +38,17 @@ fn try_texts(rt: &HostRuntime, heap: Global) -> anyhow::Result<()> {
     let file = fs::read(rt, "texts.txt")?;
     let mut tried = 0u64;
     let mut differ = 0u64;
-    for case in &cases(heap, file.as_slice(), b"text ")? {
-        let Case {
-            label,
-            bytes,
-            expected,
-        } = *case;
-        let text = expand(heap, bytes)?;
+    each_case(file.as_slice(), b"text ", |case| {
+        let text = expand(heap, case.bytes)?;
         let got = answer(heap, text.as_slice())?;
         tried = tried.saturating_add(1);
-        if got.as_bytes() != expected {
+        if got.as_bytes() != case.expected {
             differ = differ.saturating_add(1);
-            let name = String::from_utf8_lossy(heap, label)?;
+            let name = String::from_utf8_lossy(heap, case.label)?;
             println!(rt; "{name}: {got}")?;
         }
-    }
+        Ok(())
+    })?;
     println!(rt; "{tried} texts, {differ} differ")?;
     Ok(())
 }
@@ -60,22 +56,16 @@ fn try_texts(rt: &HostRuntime, heap: Global) -> anyhow::Result<()> {
 // Plays each worked model.
 fn play_models(rt: &HostRuntime, heap: Global) -> anyhow::Result<()> {
     let file = fs::read(rt, "models.txt")?;
-    for case in &cases(heap, file.as_slice(), b"model ")? {
-        let Case {
-            label,
-            bytes,
-            expected,
-        } = *case;
-        let end = match words::number_of(expected) {
+    each_case(file.as_slice(), b"model ", |case| {
+        let end = match words::number_of(case.expected) {
             Some(end) => u64::from(end),
             None => 0,
         };
-        let text = expand(heap, bytes)?;
-        let name = String::from_utf8_lossy(heap, label)?;
+        let text = expand(heap, case.bytes)?;
+        let name = String::from_utf8_lossy(heap, case.label)?;
         println!(rt; "model {name}")?;
-        play_model(rt, heap, text.as_slice(), end)?;
-    }
-    Ok(())
+        play_model(rt, heap, text.as_slice(), end)
+    })
 }
 
 // Plays one with luck 1 and 64 places.
@@ -91,7 +81,7 @@ fn play_model(rt: &HostRuntime, heap: Global, text: &[u8], end: u64) -> anyhow::
         Ok(Outcome::Ended) => println!(rt; "done")?,
         Ok(_) => println!(rt; "not done")?,
         Err(Failure::Refused(refusal)) => println!(rt; "{refusal}")?,
-        Err(Failure::Io(error)) => return Err(error.into()),
+        Err(failure) => return Err(failure.into()),
     }
     Ok(())
 }
